@@ -1,41 +1,39 @@
 #!/usr/bin/env bash
-# 62 links that say nothing, send a bad first frame, or cut in mid-frame, over real sockets: two clients that paint
-# together beside them are served all the same. It fails where they are not, or where their pictures differ.
+# Two painters beside 64 links that are silent, bad, cut, reset, slow, deaf or that only ping, over
+# real sockets: bench/bad_links.py. It fails where one isn't served, and where the pictures of what
+# both were sent differ from each other, or from that of a client that joins at the end.
+# DRAWPILE is the program, else bin/drawpile; PORT another port than 7747; PAINT_SECONDS how long they paint.
 set -eu
 cd "$(dirname "$0")/.."
 port=${PORT:-7747}
+drawpile=${DRAWPILE:-bin/drawpile}
 work=$(mktemp -d)
-bin/drawpile replay <examples/red-pixel.frames >/dev/null # builds it on first use
-bin/drawpile serve "127.0.0.1:$port" --workers 64 &
+"$drawpile" replay <examples/red-pixel.frames >/dev/null # builds it on first use
+"$drawpile" serve "127.0.0.1:$port" --workers 64 &
 server=$!
 trap 'kill "$server" 2>/dev/null || true; rm -rf "$work"' EXIT
 sleep 1
-python3 - "$port" "$work" <<'PY' &
-import socket, sys, time
-port, work = int(sys.argv[1]), sys.argv[2]
-links = []
-for n in range(62):
-    link = socket.create_connection(('127.0.0.1', port))
-    if n % 3 == 1:
-        link.sendall(b'\x00\x00\x14\x00')      # an undo point is no Hello
-        assert link.recv(1) == b'', 'a bad first frame is answered'
-    elif n % 3 == 2:
-        link.sendall(b'\x00\x03\x00\x00an')    # a frame of which a byte is missing
-        link.close()
-    links.append(link)
-open(work + '/ready', 'w').close()
-time.sleep(60)                                 # the silent ones stay open
-PY
-bad=$!
-trap 'kill "$server" "$bad" 2>/dev/null || true; rm -rf "$work"' EXIT
-for _ in $(seq 100); do [ -e "$work/ready" ] && break; sleep 0.1; done
-[ -e "$work/ready" ] || { echo "the bad links were not made" >&2; exit 1; }
-timeout 30 bin/drawpile join "127.0.0.1:$port" ann <examples/ann.script >"$work/ann" &
-ann=$!
-for _ in $(seq 100); do grep -q '^took 0:2$' "$work/ann" && break; sleep 0.1; done
-timeout 30 bin/drawpile join "127.0.0.1:$port" bob <examples/bob.script >"$work/bob"
-wait "$ann"
-for name in ann bob; do sed -n '/^P3/,$p' "$work/$name" >"$work/$name.ppm"; done
+timeout 120 bench/bad_links.py "$port" "$work" "${PAINT_SECONDS:-5}"
+for name in ann bob; do "$drawpile" play <"$work/$name.rec" >"$work/$name.ppm"; done
 cmp "$work/ann.ppm" "$work/bob.ppm"
-[ -s "$work/ann.ppm" ]
-echo "62 links that are silent, bad or cut: two clients were served, and their pictures are equal"
+# One who joins now takes all that was placed before, which bob, who left last, was sent.
+entries=$(python3 - "$work/bob.rec" <<'PY'
+import struct, sys
+data, at, count = open(sys.argv[1], 'rb').read(), 30, 0
+while at < len(data):
+    at += 4 + struct.unpack('>H', data[at:at + 2])[0]
+    count += 1
+print(count)
+PY
+)
+printf 'take %s\nconf\n' "$entries" | timeout 60 "$drawpile" join "127.0.0.1:$port" eve >"$work/eve"
+python3 - "$work" <<'PY'
+import sys
+work = sys.argv[1]
+text = open(f'{work}/eve').read()
+eve = [int(word) for word in text[text.index('P3\n') + 3:].split()]
+data = open(f'{work}/ann.ppm', 'rb').read().split(b'\n', 3)
+assert eve[:2] == [int(word) for word in data[1].split()] and eve[3:] == list(data[3]), 'eve has another picture'
+PY
+kill -0 "$server"
+echo "the painters' pictures are equal, and a client that joined then has the same"

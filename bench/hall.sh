@@ -1,12 +1,12 @@
 #!/usr/bin/env bash
-# Times an act on a hall that nobody else acts on, beside the step of its machine alone: nanoseconds each, the least of
-# some runs. The program is made in a temporary folder, proved and built there, on a copy of the crates; that takes some
+# Times an act on a hall that nobody else acts on, and one of many in a turn, beside the step of its machine alone:
+# nanoseconds each, the least of some runs. The program is made in a temporary folder, proved and built there, on a copy of the crates; that takes some
 # minutes.
 set -eu
 top=$(cd "$(dirname "$0")/.." && pwd)
 work=$(mktemp -d)
 trap 'rm -rf "$work"' EXIT
-mkdir -p "$work/crates/turns/src" "$work/crates/turns/specs" "$work/crates/turns/proofs/act_often"
+mkdir -p "$work/crates/turns/src" "$work/crates/turns/specs" "$work/crates/turns/proofs/act_often" "$work/crates/turns/proofs/act_in_turns"
 for name in dp_machine dp_hall; do
   cp -r "$top/crates/$name" "$work/crates/$name"
 done
@@ -17,7 +17,7 @@ cat >specs/Lib.antt <<'ANTT'
 pub mod Working
 ANTT
 cat >specs/Working.antt <<'ANTT'
-use Rattle.std.specs.Prelude.{◌≡◌, ℕ, List}
+use Rattle.std.specs.Prelude.{◌≡◌, ℕ, Bool, true, List}
 use Rattle.dp_hall.specs.declared.view.Entry.{Entry}
 use Rattle.dp_hall.specs.declared.view.View.{View}
 use Rattle.dp_hall.specs.Laws.{Continues, AllBackBut}
@@ -31,23 +31,35 @@ module _ {E O M : Type 0} where
   -- some acts of one seat
   abbrev pub Acted : View E O M → View E O M → Type 0
   Acted v w = (entries : List (Entry E O M)) × Continues v entries w
+
+-- every act is followed by the next one
+abbrev pub always : {O : Type 0} → O → Bool
+always outcome = true
 ANTT
 cat >proofs/act_often/Invariants.antt <<'ANTT'
 use Rattle.dp_hall.specs.Calls.{IsOf}
 use Rattle.turns.specs.Working.{Acted}
 use Rattle.turns.proofs.act_often.Given as goal
 
-abbrev pub invariant-loop-n : goal.invariant-loop-n
-invariant-loop-n g l = IsOf l.hall l.seat × Acted l.fn.seat.view l.seat.view
+abbrev pub invariant-loop : goal.invariant-loop
+invariant-loop g l = IsOf l.hall l.seat × Acted l.fn.seat.view l.seat.view
+ANTT
+cat >proofs/act_in_turns/Invariants.antt <<'ANTT'
+use Rattle.dp_hall.specs.Calls.{IsOf}
+use Rattle.turns.specs.Working.{Acted}
+use Rattle.turns.proofs.act_in_turns.Given as goal
+
+abbrev pub invariant-loop : goal.invariant-loop
+invariant-loop g l = IsOf l.hall l.seat × Acted l.fn.seat.view l.seat.view
 ANTT
 cat >src/main.rt <<'RT'
 //! Times acts on a hall, and steps of its machine alone.
 #![tactic(auto)]
 
 ghost use Rattle.dp_hall.specs.Calls.{IsOf};
-ghost use Rattle.turns.specs.Working.{Acted, Returns};
+ghost use Rattle.turns.specs.Working.{Acted, Returns, always};
 
-use dp_hall::{Hall, HallError, Machine, Seat, calls_add_up, seats_come_back};
+use dp_hall::{Hall, HallError, Listener, Machine, Seat, calls_add_up, seats_come_back};
 use std::alloc::{AllocError, Global};
 use std::io;
 use std::sync::Wait;
@@ -55,6 +67,8 @@ use std::time::{Clock, Duration, Instant};
 
 const RUNS: usize = 5;
 const ACTS: u64 = 1_000_000;
+const ACTS_IN_A_TURN: usize = 100;
+const EVENT: u64 = 7;
 
 #[derive(Drop)]
 struct Counter {
@@ -92,28 +106,55 @@ fn act_often<R: Wait>(rt: &R, hall: &Hall<Counter>, seat: &mut Seat<Counter>)
     ensures acted { Acted seat.old.view seat.new.view }
 {
     calls_add_up::<u64, Result<u64, AllocError>, Counter>();
-    for n in 0..ACTS {
-        let _ = hall.act(rt, seat, &n);
+    for _ in 0..ACTS {
+        let _ = hall.act(rt, seat, &EVENT);
     }
 }
 
-fn act_all<R: Wait>(rt: &R, hall: &Hall<Counter>, seat: &mut Seat<Counter>)
+struct Deaf;
+
+impl Listener<Counter> for Deaf {
+    ghost follows = { always };
+
+    fn hear(&mut self, _outcome: &Result<u64, AllocError>) -> bool {
+        true
+    }
+}
+
+/// The same acts, many in each turn.
+fn act_in_turns<R: Wait>(rt: &R, hall: &Hall<Counter>, seat: &mut Seat<Counter>)
+    requires { IsOf hall.now seat.old }
+    ensures of { IsOf hall.now seat.new }
+    ensures acted { Acted seat.old.view seat.new.view }
+{
+    calls_add_up::<u64, Result<u64, AllocError>, Counter>();
+    let events = [EVENT; ACTS_IN_A_TURN];
+    for _ in 0..ACTS / ACTS_IN_A_TURN as u64 {
+        let _ = hall.act_each(rt, seat, &events, &mut Deaf);
+    }
+}
+
+fn act_all<R: Wait>(rt: &R, hall: &Hall<Counter>, seat: &mut Seat<Counter>, in_turns: bool)
     requires { IsOf hall.now seat.old }
     ensures of { IsOf hall.now seat.new }
     ensures returns { Returns seat.old.view seat.new.view }
 {
     seats_come_back::<u64, Result<u64, AllocError>, Counter>();
-    act_often(rt, hall, seat);
+    if in_turns {
+        act_in_turns(rt, hall, seat);
+    } else {
+        act_often(rt, hall, seat);
+    }
 }
 
 fn step_often(counter: &mut Counter) {
-    for n in 0..ACTS {
-        let _ = counter.step(&n);
+    for _ in 0..ACTS {
+        let _ = counter.step(&EVENT);
     }
 }
 
 /// The time of all acts, and the count that they leave.
-fn acts<R: Wait + Clock>(rt: &R, alloc: Global) -> io::Result<(Duration, u64)> {
+fn acts<R: Wait + Clock>(rt: &R, alloc: Global, in_turns: bool) -> io::Result<(Duration, u64)> {
     seats_come_back::<u64, Result<u64, AllocError>, Counter>();
     let (hall, mut seat) = match Hall::start(alloc, Counter { count: 0 }) {
         Ok(started) => started,
@@ -123,7 +164,7 @@ fn acts<R: Wait + Clock>(rt: &R, alloc: Global) -> io::Result<(Duration, u64)> {
         }
     };
     let start = Instant::now(rt);
-    act_all(rt, &hall, &mut seat);
+    act_all(rt, &hall, &mut seat, in_turns);
     let end = Instant::now(rt);
     let counter = hall.close(seat);
     Ok((end?.duration_since(start?), counter.count))
@@ -144,16 +185,21 @@ fn each(took: Duration) -> u64 {
 }
 
 fn main(rt: HostRuntime) -> io::Result<()> {
-    let (mut act, mut step) = (u64::MAX, u64::MAX);
+    let (mut act, mut inside, mut step) = (u64::MAX, u64::MAX, u64::MAX);
     for _ in 0..RUNS {
-        let ((acting, count), (stepping, alone)) = (acts(&rt, rt.alloc())?, steps(&rt)?);
-        if count != alone {
+        let (acting, count) = acts(&rt, rt.alloc(), false)?;
+        let (turning, turned) = acts(&rt, rt.alloc(), true)?;
+        let (stepping, alone) = steps(&rt)?;
+        if count != alone || turned != alone {
             println!(rt; "NOT THE SAME")?;
         }
         act = act.min(each(acting));
+        inside = inside.min(each(turning));
         step = step.min(each(stepping));
     }
-    println!(rt; "act {}.{:03} ns, step {}.{:03} ns", act / 1000, act % 1000, step / 1000, step % 1000)
+    println!(rt; "act {}.{:03} ns", act / 1000, act % 1000)?;
+    println!(rt; "act in a turn of {} {}.{:03} ns", ACTS_IN_A_TURN, inside / 1000, inside % 1000)?;
+    println!(rt; "step {}.{:03} ns", step / 1000, step % 1000)
 }
 RT
 if ! rt run -- turns >out.txt 2>log.txt; then

@@ -26,7 +26,7 @@ pub marked-in_order : (marks : List Bool) (ids : List ℕ) → Mark marks (lists
     → marked marks ≡ in_order ids
 marked-in_order marks ids same = filter-numbers (mark_of marks) (lists ids) 256 same
 
--- where no mark is set, nobody is marked
+-- if no mark is set, nobody is marked
 none-marked : (marks : List Bool) → length marks ≡ 256 → list_all not marks ≡ true
     → marked marks ≡ []
 none-marked marks long clear =
@@ -36,7 +36,7 @@ none-marked marks long clear =
     (AllPass-from_list_all not marks clear)))
     ∙ filter-none (numbers_below 256)
 
--- where nobody is marked, no mark is set
+-- if nobody is marked, no mark is set
 marked-none : (marks : List Bool) → length marks ≡ 256 → marked marks ≡ []
     → list_all not marks ≡ true
 marked-none marks long none =
@@ -56,7 +56,7 @@ open-some : (ids : List ℕ) (user : ℕ) → ids ≢ [] → is_open_to ids user
 open-some [] user some = absurd (some refl)
 open-some (id ∷ ids) user some = refl
 
--- where somebody is marked, the marked ids are open to those who are
+-- if somebody is marked, the marked ids are open to those who are
 pub open-marked : (marks : List Bool) (user : ℕ) → user < 256 → marked marks ≢ []
     → is_open_to (marked marks) user ≡ mark_of marks user
 open-marked marks user low some =

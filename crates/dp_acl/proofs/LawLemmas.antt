@@ -168,7 +168,7 @@ LetAlike one other user layer =
     option_map_or (lets_paint other user) (rule_of one layer) true
     ≡ option_map_or (lets_paint other user) (rule_of other layer) true
 
--- the layer that a command paints on, 0 where it paints on none
+-- the layer that a command paints on, 0 if it paints on none
 abbrev pub painted_by : Draw → ℕ
 painted_by (draw.PutImage layer mode x y w h colors) = layer
 painted_by (draw.FillRect layer mode x y w h color) = layer

@@ -61,14 +61,14 @@ pub lists-numbers : (n id : ℕ) → id < n → lists (numbers_below n) id ≡ t
 unfolding numbers_below
 lists-numbers n id lt = lists-range 0 n id (omega arith) (omega arith)
 
--- a number below n is among those that pass a test exactly where it passes
+-- a number below n is among those that pass a test exactly if it passes
 pub lists-filter : (p : ℕ → Bool) (n id : ℕ) → id < n → lists (filter p (numbers_below n)) id ≡ p id
 lists-filter p n id lt =
     any-filter_same (λ o. o == id) p (p id) (λ k same. ap p (eqb-true k id same)) (numbers_below n)
     ∙ ap (λ b. p id && b) (lists-numbers n id lt)
     ∙ and_true (p id)
 
--- where no number below n passes, no test is true
+-- if no number below n passes, no test is true
 pub filter-numbers_nil : (p : ℕ → Bool) (n id : ℕ) → filter p (numbers_below n) ≡ [] → id < n
     → p id ≡ false
 filter-numbers_nil p n id none lt =

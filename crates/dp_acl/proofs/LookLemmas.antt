@@ -244,7 +244,7 @@ join-one : (user layer id : ℕ) (joins : Bool) (last : Option Entry) (registere
 join-one user layer id joins last registered l none = sym (same-branches (id == user) l)
 join-one user layer id joins last registered l (some r name) = join-cases (id == user) r l
 
--- what is found where no entry stands
+-- what is found if no entry stands
 abbrev pub at_start : Look
 at_start = record {
   joined = false;

@@ -78,7 +78,7 @@ listed-low low id (i ∷ ids) rise listed = elim (cases_eq i id) [
       (sym (ap (λ b. b || lists ids id) (ne_eqb i id differ)) ∙ listed)
 ]
 
--- a listed id is among those that pass a test exactly where it passes
+-- a listed id is among those that pass a test exactly if it passes
 filter-listed : (p : ℕ → Bool) (ids : List ℕ) (id : ℕ) → lists ids id ≡ true
     → lists (filter p ids) id ≡ p id
 filter-listed p ids id listed =
@@ -220,7 +220,7 @@ module _ (history : List Entry) (present : List ℕ) (user : ℕ) (rise : RiseFr
 
 -- ---- what is permitted
 
--- a layer that a message paints on has two bytes, where the message has a spelling
+-- a layer that a message paints on has two bytes, if the message has a spelling
 painted_by-small : (m : Draw) → DrawHasSpelling m → painted_by m < 65536
 painted_by-small (draw.CanvasResize top right bottom left) spelled = omega arith
 painted_by-small (draw.LayerCreate id parent group title) spelled = omega arith

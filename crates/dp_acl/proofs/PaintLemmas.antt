@@ -26,7 +26,7 @@ lets-kept history user kept (Some rule) is low bytes =
     ap (lets_paint history user) (same_Some kept (rule_in_order rule) is)
     ∙ lets-in_order history user rule low bytes
 
--- who isn't locked may paint where the rule that is kept lets the user
+-- who isn't locked may paint if the rule that is kept lets the user
 pub may-by_kept : (history : List Entry) (user layer : ℕ) (kept : LayerRule)
     → is_locked history user ≡ false
     → Some kept ≡ option_map rule_in_order (rule_of history layer) → user < 256

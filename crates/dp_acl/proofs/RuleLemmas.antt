@@ -104,7 +104,7 @@ apart : (a b q : ℕ) → a ≢ b → (a == q) ≡ true → (b == q) ≡ true �
 apart a b q differ left right = differ (eqb-true a q left ∙ sym (eqb-true b q right))
 
 module _ (r : Rule) where
-  -- what is found where the rule stands among others
+  -- what is found if the rule stands among others
   abbrev With : List Rule → ℕ → Option LayerRule
   With rules q = if r.layer == q then Some (kept_of r).rule else kept_rule (map kept_of rules) q
 

@@ -19,7 +19,7 @@ carried_owners history present = Owners (filter (is_operator history) present)
 abbrev pub carried_trusted : List Entry → List ℕ → Meta
 carried_trusted history present = Trusted (filter (is_trusted history) present)
 
--- 0, where all users are locked
+-- 0, if all users are locked
 abbrev pub lock_of_all : List Entry → List ℕ
 lock_of_all history = if are_all_locked history then 0 ∷ [] else []
 
@@ -52,7 +52,7 @@ carried_rule history layer = option_map (acl_with layer) (rule_of history layer)
 abbrev pub carried_rules : List Entry → List Meta
 carried_rules history = filter_map (carried_rule history) (numbers_below 65536)
 
--- What opens the next epoch, where these users are present: each piece a part of the list. The
+-- What opens the next epoch, if these users are present: each piece a part of the list. The
 -- first four stand always, empty or as at the start too.
 abbrev pub carried : List Entry → List ℕ → List Meta
 carried history present =

@@ -48,7 +48,7 @@ KeptChangeNoRight =
     (table : Kept) (history kept : List Entry)
     → GoOn kept → StandsFor table history → StandsFor table (history ++ kept)
 
--- An opening changes no right of a user who is present, where the entries that it keeps go on: what
+-- An opening changes no right of a user who is present, if the entries that it keeps go on: what
 -- the user may say is the same after it as after the history before, of messages that have a
 -- spelling.
 abbrev pub OpeningsChangeNoRight : Type 0

@@ -74,7 +74,7 @@ is_join_of user entry = is_some (joined entry.msg) && entry.user == user
 abbrev pub has_joined : List Entry → ℕ → Bool
 has_joined history user = list_any (is_join_of user) history
 
--- the entries after the user's last Join, none where the user hasn't joined
+-- the entries after the user's last Join, none if the user hasn't joined
 abbrev pub since_join : List Entry → ℕ → List Entry
 since_join history user =
     if has_joined history user then after_last (is_join_of user) history else []

@@ -24,7 +24,7 @@ abbrev pub last_join : List Entry → ℕ → Option Entry
 last_join history user =
     let joins = filter (is_join_of user) history in slice_get joins (length joins - 1)
 
--- An entry of this message goes on into the next epoch where the reset keeps entries: a command, a
+-- An entry of this message goes on into the next epoch if the reset keeps entries: a command, a
 -- point, an undo, a chat, or what has no effect.
 abbrev pub goes_on : Msg → Bool
 goes_on (msg.Draw command) = true
@@ -38,7 +38,7 @@ goes_on m = false
 abbrev pub GoOn : List Entry → Type 0
 GoOn entries = AllByRecursion (λ entry. goes_on entry.msg ≡ true) entries
 
--- the entries that a reset keeps of a history from this place on; none, where it names no place
+-- the entries that a reset keeps of a history from this place on; none, if it names no place
 abbrev pub kept_from : Option ℕ → List Entry → List Entry
 kept_from None history = []
 kept_from (Some place) history = filter (λ entry. goes_on entry.msg) (drop place history)

@@ -50,7 +50,7 @@ abbrev pub is_locked : List Entry → ℕ → Bool
 is_locked history user =
     not (is_operator history user) && (are_all_locked history || is_lock_listed history user)
 
--- the tiers of the features where no FeatureTiers stands
+-- the tiers of the features if no FeatureTiers stands
 abbrev pub first_tiers : Tiers
 first_tiers = record {
   image = 3;
@@ -85,7 +85,7 @@ is_open_to [] user = true
 is_open_to (id ∷ ids) user = lists (id ∷ ids) user
 
 -- The rule lets the user paint: it doesn't lock the layer, and the user is an operator, or has a
--- tier number at most the rule's and is among its ids, where it has some.
+-- tier number at most the rule's and is among its ids, if it has some.
 abbrev pub lets_paint : List Entry → ℕ → LayerRule → Bool
 lets_paint history user rule =
     not rule.locked

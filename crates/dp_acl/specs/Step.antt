@@ -13,7 +13,7 @@ use Rattle.dp_acl.specs.Table.{Kept, Mark, mark_of, kept_rule, rule_in_order}
 abbrev pub meta_entry : ℕ → Meta → Entry
 meta_entry user m = record { user = user; msg = msg.Meta m }
 
--- Whether a user is listed: not after a Join; after a new list, where it lists the user and the
+-- Whether a user is listed: not after a Join; after a new list, if it lists the user and the
 -- user has joined; and else as before.
 abbrev pub listed_after : Kept → Entry → Option (List ℕ) → List Bool → ℕ → Bool
 listed_after before e ids marks user =

@@ -56,7 +56,7 @@ impl Rights {
         Ok(())
     }
 
-    /// 0, where all are locked, and the present ids that are listed.
+    /// 0, if all are locked, and the present ids that are listed.
     fn locks(&self, alloc: Global, present: &[u8]) -> Result<Vec<u8>, AllocError>
         ensures { IfOk result (λ ids. ids.items
             ≡ (if self.now.all_locked then 0 ∷ [] else [])

@@ -33,7 +33,7 @@ impl Rights {
     ///
     /// # Errors
     ///
-    /// Where memory runs out. The rights are then as they were, but for memory that may be ready.
+    /// If memory runs out. The rights are then as they were, but for memory that may be ready.
     pub fn note(&mut self, entry: &Entry) -> Result<(), AllocError>
         ensures stands { OnOk result ((history : List Item) → StandsFor self.old history
             → StandsFor self.new (history ++ entry.now ∷ [])) }

@@ -46,7 +46,7 @@ impl Model for Rights {
     } };
 }
 
-/// The tiers of the features where no FeatureTiers stands.
+/// The tiers of the features if no FeatureTiers stands.
 const FIRST_TIERS: Tiers = Tiers {
     image: 3,
     move_: 3,

@@ -192,7 +192,7 @@ module _ {A W R T : Type 0} (see : Wires W R T) (words : List (String A)) (e : E
           by (inr none) = (
             Memory,
             (runs command).begun e.streams.input e.streams.left e.streams.old e.streams.new
-                e.streams.counters none.1.streams.1 none.1.streams.4,
+                e.streams.counters none.1.streams.0 none.1.streams.1 none.1.streams.4,
             (none.1.streams.2, none.1.streams.3),
             subst Tells none.0 says,
           )

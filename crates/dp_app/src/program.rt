@@ -115,7 +115,8 @@ pub fn drawpile<
     // comes to decides what is written, the fault that ends it is the one that was counted, and the
     // status and the line on diag report it. Of `world` what is written is the report of the lines
     // that are done, and no more is drawn than these lines may draw: what is said once, what is
-    // taken on the client's two canvases, and nothing for a picture that is shown.
+    // taken on the client's two canvases, and nothing for a picture that is shown. Of `drill` each
+    // command of its history is drawn at most once, and no more tiles are made than these reach.
     ensures ends { (command : LocalCommand) → Asks words.now (Local command)
         → (end : RunEnd)
         × (run_of command).leaves (I.left input.old) (I.left input.new)

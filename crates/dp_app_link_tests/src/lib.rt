@@ -1,13 +1,8 @@
-//! The tests of the program over links, through its top call.
+//! Tests of the program through its top call: links on the loopback, and a recording that is played
+//! by workers past a gate. Links in memory are in the rows of `dp_rows`.
 #![tactic(auto)]
 
 #[cfg(test)]
-mod join;
-#[cfg(test)]
-mod kept;
-#[cfg(test)]
-mod running;
-#[cfg(test)]
-mod serve;
+mod play;
 #[cfg(test)]
 mod together;

@@ -3,4 +3,4 @@
 
 mod running;
 
-pub use running::{Faults, NO_FAULTS, Ran, gated, outcome_of, outcome_over, run, words_of};
+pub use running::{Faults, NO_FAULTS, Ran, outcome_of, outcome_over, run, words_of};

@@ -4,7 +4,7 @@ ghost use Rattle.std.specs.Prelude.{◌≡◌, ◌<◌};
 
 use dp_app::{Outcome, drawpile};
 use dp_io::{MemSink, MemSource, Sink, Source};
-use dp_keeper::{Keeper, MemKeeper, Rows, SureKeeper};
+use dp_keeper::{Keeper, Rows, SureKeeper};
 use dp_steps::Steps;
 use dp_wire::{Gate, MemWire, OpenGate, Wire};
 use std::alloc::{AllocError, Global};
@@ -96,38 +96,33 @@ pub fn outcome_of<R: Threads + Wait + Sync, I: Source, O: Sink, E: Sink, W: Wire
     diag: &mut E,
     wires: Vec<W>,
 ) -> Outcome<W, SureKeeper> {
-    gated(rt, alloc, words, input, output, diag, wires, &OpenGate)
-}
-
-/// The same with a gate.
-pub fn gated<R: Threads + Wait + Sync, I: Source, O: Sink, E: Sink, W: Wire + Send, G: Gate>(
-    rt: &R,
-    alloc: Global,
-    words: &[String],
-    input: &mut I,
-    output: &mut O,
-    diag: &mut E,
-    wires: Vec<W>,
-    gate: &G,
-) -> Outcome<W, SureKeeper> {
     let keeper = SureKeeper::new(Rows::new(alloc));
-    branded(rt, alloc, words, input, output, diag, wires, keeper, gate)
-}
-
-/// The same over a store, with a gate that holds nobody.
-pub fn outcome_over<R: Threads + Wait + Sync, I: Source, O: Sink, E: Sink, W: Wire + Send>(
-    rt: &R,
-    alloc: Global,
-    words: &[String],
-    input: &mut I,
-    output: &mut O,
-    diag: &mut E,
-    wires: Vec<W>,
-    keeper: MemKeeper,
-) -> Outcome<W, MemKeeper> {
-    branded(
+    outcome_over(
         rt, alloc, words, input, output, diag, wires, keeper, &OpenGate,
     )
+}
+
+/// The same over a store, with a gate.
+pub fn outcome_over<
+    R: Threads + Wait + Sync,
+    I: Source,
+    O: Sink,
+    E: Sink,
+    W: Wire + Send,
+    K: Keeper + Send,
+    G: Gate,
+>(
+    rt: &R,
+    alloc: Global,
+    words: &[String],
+    input: &mut I,
+    output: &mut O,
+    diag: &mut E,
+    wires: Vec<W>,
+    keeper: K,
+    gate: &G,
+) -> Outcome<W, K> {
+    branded(rt, alloc, words, input, output, diag, wires, keeper, gate)
 }
 
 /// Runs the program with new counters.

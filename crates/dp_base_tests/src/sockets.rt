@@ -195,6 +195,24 @@ fn a_peer_resets(rt: HostRuntime) {
     assert_eq!(rt; tx.write(b"more"), Err(Failed));
 }
 
+// What a peer sent and nobody read resets no link: the peer gets the last bytes, and then the end.
+#[test]
+fn a_link_is_closed_with_bytes_unread(rt: HostRuntime) {
+    let (mut wire, other) = listen(&rt, rt.alloc());
+    let port = other.port().expect(&rt, "a port");
+    let mut peer = TcpStream::connect(&rt, (Ipv4Addr::LOCALHOST, port)).expect(&rt, "a peer");
+    let (rx, mut tx) = accepted(&rt, &mut wire);
+    let count = io::Write::write(&mut peer, b"unread").expect(&rt, "bytes");
+    assert_eq!(rt; count, 6);
+    assert_eq!(rt; tx.write(b"last"), Ok(4));
+    wire.done(rx, tx);
+    let mut buf = [0; 9];
+    let count = io::Read::read(&mut peer, &mut buf).expect(&rt, "bytes");
+    assert_eq!(rt; count, 4);
+    let count = io::Read::read(&mut peer, &mut buf).expect(&rt, "no reset");
+    assert_eq!(rt; count, 0);
+}
+
 /// Writes until a write fails, or 2^18 writes were made.
 fn fill(mut tx: TcpTx) -> bool {
     let bytes = [0; 4096];

@@ -1,3 +1,4 @@
+pub mod Batches
 pub mod DeferredLayers
 pub mod Grids
 pub mod Shown

@@ -1,13 +1,18 @@
 //! The canvas.
 
-ghost use Rattle.std.specs.Prelude.{◌≡◌, option_copied, option_map, IfSome};
-ghost use Rattle.dp_layers.specs.Rows.{content_of};
+ghost use Rattle.std.specs.Prelude.{◌≡◌, ◌+◌, true, is_some, option_copied, option_map, length};
+ghost use Rattle.std.specs.Prelude.{All, IfSome, OnOk, OnErr};
+ghost use Rattle.dp_blend.specs.Color.{IsPixel};
+ghost use Rattle.dp_board.specs.Counts.{CountsFew};
+ghost use Rattle.dp_layers.specs.Rows.{content_of, with_content};
 ghost use Rattle.dp_paint.specs.Painting.{IsGridOf};
 ghost use Rattle.dp_pixels.specs.Feet.{are_apart, reach};
 ghost use Rattle.dp_plain.specs.Board.{empty_board, IsBoard};
-ghost use Rattle.dp_plain.specs.Commands.{draw};
+ghost use Rattle.dp_plain.specs.Commands.{draw, draw_all};
 ghost use Rattle.dp_tile.specs.Tiles.{grid_pixels};
 
+use crate::batch::draw_in_order;
+use crate::painting::Workers;
 use crate::tiled::TiledPixels;
 use dp_blank::BlankBoard;
 use dp_blend::Pixel;
@@ -17,9 +22,11 @@ use dp_msg_draw::Draw;
 use dp_plain::{BoardView, LayeredBoard};
 use dp_steps::Steps;
 use dp_tile::Grid;
+use dp_wire::Gate;
 use std::alloc::{AllocError, Global};
 use std::marker::Model;
 use std::sync::ledger::Ledger;
+use std::thread::Threads;
 
 /// The board that is drawn on. It is seen as a `Board` of the definitions. Its layers are grids of
 /// tiles, which canvases that were shared have in common until one of them is drawn on.
@@ -58,6 +65,44 @@ impl Canvas {
             Some(content) => Some(&content.grid),
             None => None,
         }
+    }
+
+    /// Puts a grid in the place of that of the paint layer of the id.
+    pub(crate) fn put_grid(&mut self, id: u16, grid: Grid)
+        requires present { is_some (content_of self.old.rows id) ≡ true }
+        requires sides { IsGridOf self.old.width self.old.height grid }
+        requires pixels { All IsPixel (grid_pixels self.old.width self.old.height grid) }
+        ensures { self.new ≡ record self.old {
+          rows = with_content self.old.rows id
+              (grid_pixels self.old.width self.old.height grid);
+        } }
+    {
+        let _old = self.board.put_content(id, TiledPixels { grid });
+    }
+
+    /// Draws commands in order, by workers those that stand together and paint on one layer. The
+    /// canvas is as if each were drawn by itself, whatever the number of workers.
+    ///
+    /// # Errors
+    ///
+    /// The canvas is as it was. Draws and tiles that were made are counted.
+    pub fn draw_batch<R: Threads + Sync, G: Gate, D: Ledger, T: Ledger>(
+        &mut self,
+        rt: &R,
+        ops: &[Draw],
+        workers: &Workers<'_, G>,
+        draws: &mut Steps<D>,
+        tiles: &mut Steps<T>,
+    ) -> Result<(), AllocError>
+        ensures board { OnOk result (self.new ≡ draw_all self.old ops.now) }
+        ensures draws { OnOk result (draws.new ≡ draws.old + length ops.now) }
+        ensures err { OnErr result (self.new ≡ self.old) }
+        ensures counts { CountsFew reach ops.now draws.old draws.new tiles.old tiles.new }
+    {
+        let mut next = self.share(draws, tiles)?;
+        draw_in_order(rt, &mut next, ops, workers, draws, tiles)?;
+        *self = next;
+        Ok(())
     }
 }
 

@@ -15,7 +15,7 @@ use Rattle.dp_replay.specs.Replay.{act_of_message, undo_depth, user_act_of}
 use Rattle.dp_screen.specs.Due as screen
 use Rattle.dp_client.specs.Client.{State, own_of}
 
--- what an entry that is no mark may draw on both boards, where this says which commands are apart:
+-- what an entry that is no mark may draw on both boards, if this says which commands are apart:
 -- on the confirmed one its own command, or if it moves a group those from that group's point on;
 -- and what it has drawn anew on that of the fork
 abbrev pub entry_due : (Draw → Draw → Bool) → State → Entry → List Draw
@@ -32,7 +32,7 @@ due_at (Some epoch) apart s entry = []
 abbrev pub due_on : (Draw → Draw → Bool) → State → Entry → List Draw
 due_on apart s entry = due_at (marked entry.msg) apart s entry
 
--- on a canvas, where commands are apart whose feet don't meet
+-- on a canvas, if commands are apart whose feet don't meet
 abbrev pub canvas_due : State → Entry → List Draw
 canvas_due = due_on are_apart
 

@@ -32,7 +32,7 @@ use std::sync::ledger::Ledger;
 /// Where an entry stands that was taken, and the epoch that is to be acknowledged.
 #[derive(Clone, Copy, Debug, PartialEq, Eq)]
 pub struct Taken {
-    /// The epoch to be acknowledged, where the entry opened one.
+    /// The epoch to be acknowledged, if the entry opened one.
     pub ack: Option<u32>,
     /// The entry's epoch.
     pub epoch: u32,
@@ -165,7 +165,7 @@ impl<B: Board<Op = Draw> + BlankBoard> Client<B> {
     ///
     /// # Errors
     ///
-    /// Where memory runs out. The client is then as it was.
+    /// If memory runs out. The client is then as it was.
     pub fn say<D: Ledger, T: Ledger>(
         &mut self,
         msg: &Msg,
@@ -192,7 +192,7 @@ impl<B: Board<Op = Draw> + BlankBoard> Client<B> {
     ///
     /// # Errors
     ///
-    /// Where memory runs out. The client is then as it was.
+    /// If memory runs out. The client is then as it was.
     pub fn take<D: Ledger, T: Ledger>(
         &mut self,
         entry: &Entry,

@@ -1,9 +1,11 @@
 -- The commands on the input and the output alone are runs.
-use Rattle.std.proofs.Common.{◌≡◌, ℕ, List, ap, refl, sym, ◌∙◌}
+use Rattle.std.proofs.Common.{◌≡◌, ℕ, List, ap, refl, sym, ◌∙◌, arith}
 use Rattle.std.specs.Prelude.{Option}
+use Rattle.std.specs.Io.KnownBytes.{Appends}
 use Rattle.dp_messages.specs.declared.message.Entry.{Entry}
 use Rattle.dp_lines.specs.declared.run_end.RunEnd.{RunEnd}
-use Rattle.dp_lines.specs.declared.run_end.RunEnd.TheVariants.{Done, Truncated}
+use Rattle.dp_lines.specs.declared.run_end.RunEnd.TheVariants.{Done, Memory, Truncated}
+use Rattle.dp_lines.specs.declared.run_end.RunEnd.TheVariants.{WriteFault}
 use Rattle.dp_lines.specs.declared.line.Line.{Line}
 use Rattle.dp_lines.specs.Ends.{LinesEnd}
 use Rattle.dp_schedule.specs.declared.action.Action.{Action}
@@ -14,13 +16,16 @@ use Rattle.dp_viewer.specs.Pictures.{PictureLeaves, picture_text}
 use Rattle.dp_viewer.specs.Ways.{Way, play_way, replay_way}
 use Rattle.dp_words.specs.declared.command_line.LocalCommand.{LocalCommand}
 use Rattle.dp_words.specs.declared.command_line.LocalCommand.TheVariants.{Replay, World, Play}
+use Rattle.dp_words.specs.declared.command_line.LocalCommand.TheVariants.{Drill}
 use Rattle.dp_world.proofs.Due.{no_steps, whole_report}
 use Rattle.dp_world.proofs.Leaving.{nothing_leaves}
 use Rattle.dp_world.specs.RunEnds.{WorldLeaves, lines_end_of}
 use Rattle.dp_world.specs.Schedule.{WorldComesTo}
+use Rattle.dp_drill.specs.Leaves.{WritesText}
+use Rattle.dp_drill.specs.Summary.{drill_text}
 use Rattle.dp_commands.specs.Answer.{answer_for}
-use Rattle.dp_commands.specs.Runs.{IsReadWhole, IsLocalRun, IsUnfailed, picture_run, run_of}
-use Rattle.dp_commands.specs.Runs.{world_run}
+use Rattle.dp_commands.specs.Runs.{IsReadWhole, IsLocalRun, IsUnfailed, drill_run, picture_run}
+use Rattle.dp_commands.specs.Runs.{run_of, world_run}
 
 -- ---- pictures
 
@@ -53,7 +58,7 @@ picture-is way law = record {
   some = λ bytes none. law.some bytes (λ entries end comes.
       none (answer_for end (picture_text way entries end)) (entries, end, comes, refl));
   whole = λ input left old new c end h reads. picture-whole way input left old new end h;
-  begun = λ input left old new c keeps still. keeps;
+  begun = λ input left old new c unread keeps still. keeps;
   alone = λ input left old new c h. h;
 }
 
@@ -93,9 +98,42 @@ world-is law = record {
   some = λ bytes none. law.some bytes (λ done actions end comes.
       none (answer_for (lines_end_of end) (report actions)) (done, actions, end, comes, refl));
   whole = λ input left old new c end h reads. world-whole input left old new c end h;
-  begun = λ input left old new c keeps still.
+  begun = λ input left old new c unread keeps still.
       nothing_leaves no_steps input left old new c (appends_nothing old new keeps) still;
   alone = λ input left old new c h. h;
+}
+
+-- ---- drills
+
+-- a drill that was not cut short has its summary written
+drill-given : (text : List ℕ) (old new : Option (List ℕ)) (end : RunEnd)
+    → WritesText text old new end → IsUnfailed end
+    → (given : List ℕ) × (answer_for end given ≡ answer_for Done text) × Appends old new given
+drill-given text old new Done h unfailed = (text, refl, h)
+drill-given text old new WriteFault h unfailed = absurd unfailed
+drill-given text old new Memory h unfailed = absurd unfailed
+drill-given text old new _ h unfailed = absurd h
+
+drill-is : (seed rounds : ℕ) → IsLocalRun (drill_run seed rounds)
+drill-is seed rounds = record {
+  given = λ bytes left old new c end h unfailed.
+      drill-given (drill_text seed rounds) old new end h.1.text unfailed;
+  one = λ bytes a b x y. x ∙ sym y;
+  some = λ bytes none. none (answer_for Done (drill_text seed rounds)) refl;
+  whole = λ input left old new c end h reads. absurd reads;
+  begun = λ input left old new c unread keeps still. (
+    unread,
+    record {
+      text = keeps;
+      few = record {
+        draws_rise = omega (arith, still.0);
+        few_draws = omega (arith, still.0);
+        tiles_rise = omega (arith, still.1);
+        few_tiles = omega (arith, still.1);
+      };
+    },
+  );
+  alone = λ input left old new c h. h.1.text;
 }
 
 -- ---- all of them
@@ -103,5 +141,6 @@ world-is law = record {
 pub each-is : OneReading replay_way → ((at : Option ℕ) → OneReading (play_way at)) → OneSchedule
     → (command : LocalCommand) → IsLocalRun (run_of command)
 each-is replay play world Replay = picture-is replay_way replay
-each-is replay play world (Play at) = picture-is (play_way at) (play at)
+each-is replay play world (Play at workers) = picture-is (play_way at) (play at)
 each-is replay play world World = world-is world
+each-is replay play world (Drill seed rounds workers) = drill-is seed rounds

@@ -1,6 +1,8 @@
 -- The commands that work on the input and the output alone.
 use Rattle.std.specs.Prelude.{◌≡◌, ℕ, List, Option, Some, ⊤}
 use Rattle.std.specs.Io.KnownBytes.{Appends, IsAtEnd, Keeps}
+use Rattle.dp_drill.specs.Leaves.{DrillLeaves}
+use Rattle.dp_drill.specs.Summary.{drill_text}
 use Rattle.dp_lines.specs.declared.line.Line.{Line}
 use Rattle.dp_lines.specs.declared.run_end.RunEnd.{RunEnd}
 use Rattle.dp_lines.specs.declared.run_end.RunEnd.TheVariants.{Done, BadLine, ReadFault, WriteFault}
@@ -16,6 +18,7 @@ use Rattle.dp_viewer.specs.Pictures.{PictureLeaves, picture_text}
 use Rattle.dp_viewer.specs.Ways.{Way, play_way, replay_way}
 use Rattle.dp_words.specs.declared.command_line.LocalCommand.{LocalCommand}
 use Rattle.dp_words.specs.declared.command_line.LocalCommand.TheVariants.{Replay, World, Play}
+use Rattle.dp_words.specs.declared.command_line.LocalCommand.TheVariants.{Drill}
 use Rattle.dp_world.specs.RunEnds.{WorldLeaves, lines_end_of}
 use Rattle.dp_world.specs.Schedule.{WorldComesTo}
 use Rattle.dp_commands.specs.Answer.{Answer, answer_for}
@@ -67,8 +70,8 @@ pub record IsLocalRun (run : Run) : Type 0 where
   pub some : (bytes : List ℕ) → ¬ ((a : Answer) → ¬ run.due bytes a)
   pub whole : (input left old new : Option (List ℕ)) (c : Counters) (end : RunEnd)
       → run.leaves input left old new c end → run.reads → IsReadWhole end left
-  pub begun : (input left old new : Option (List ℕ)) (c : Counters) → Keeps old new
-      → NothingIsDrawn c → run.leaves input left old new c Memory
+  pub begun : (input left old new : Option (List ℕ)) (c : Counters) → Keeps input left
+      → Keeps old new → NothingIsDrawn c → run.leaves input left old new c Memory
   pub alone : (input left old new : Option (List ℕ)) (c : Counters)
       → run.leaves input left old new c LinkFault → ⊥
 
@@ -96,9 +99,20 @@ world_run = record {
   reads = ⊤;
 }
 
+-- ---- drills
+
+-- the command that makes a session from a number, and writes its summary; it reads no input
+abbrev pub drill_run : ℕ → ℕ → Run
+drill_run seed rounds = record {
+  due = λ bytes answer. answer ≡ answer_for Done (drill_text seed rounds);
+  leaves = λ input left old new c end. Keeps input left × DrillLeaves seed rounds old new c end;
+  reads = ⊥;
+}
+
 -- ---- all of them
 
 abbrev pub run_of : LocalCommand → Run
 run_of Replay = picture_run replay_way
 run_of World = world_run
-run_of (Play at) = picture_run (play_way at)
+run_of (Play at workers) = picture_run (play_way at)
+run_of (Drill seed rounds workers) = drill_run seed rounds

@@ -14,6 +14,7 @@ ghost use Rattle.dp_commands.specs.Runs.{run_of};
 
 use crate::ending::Ending;
 use crate::server::run_server;
+use dp_drill::{Drill, run_drill};
 use dp_epochs::{Journal, Shut};
 use dp_io::{Sink, Source};
 use dp_joining::run_join;
@@ -22,7 +23,7 @@ use dp_lines::RunEnd;
 use dp_msg_meta::Text;
 use dp_serve::Reports;
 use dp_steps::Steps;
-use dp_viewer::{run_play, run_replay};
+use dp_viewer::{Playing, run_play, run_replay};
 use dp_wire::{Gate, Wire};
 use dp_words::{CommandLine, LocalCommand, read_words};
 use dp_world::run_world;
@@ -143,7 +144,7 @@ fn run_command<
 {
     match command {
         CommandLine::Local(command) => {
-            let end = run_local(alloc, command, input, output, draws, tiles);
+            let end = run_local(rt, alloc, command, input, output, gate, draws, tiles);
             Ran::without(alloc, Ending::Run(end), wires, keeper)
         }
         CommandLine::Join { addr: _, name } => {
@@ -159,11 +160,13 @@ fn run_command<
 }
 
 /// Runs a command on the input and the output alone.
-fn run_local<I: Source, O: Sink, D: Ledger, T: Ledger>(
+fn run_local<R: Threads + Sync, I: Source, O: Sink, G: Gate, D: Ledger, T: Ledger>(
+    rt: &R,
     alloc: Global,
     command: &LocalCommand,
     input: &mut I,
     output: &mut O,
+    gate: &G,
     draws: &mut Steps<D>,
     tiles: &mut Steps<T>,
 ) -> RunEnd
@@ -178,7 +181,22 @@ fn run_local<I: Source, O: Sink, D: Ledger, T: Ledger>(
     match command {
         LocalCommand::Replay => run_replay(alloc, input, output, draws, tiles),
         LocalCommand::World => run_world(alloc, input, output, draws, tiles),
-        LocalCommand::Play { at } => run_play(alloc, input, output, *at, draws, tiles),
+        LocalCommand::Play { at, workers } => {
+            let (at, workers) = (*at, *workers);
+            let playing = Playing { at, workers, gate };
+            run_play(rt, alloc, input, output, playing, draws, tiles)
+        }
+        LocalCommand::Drill {
+            seed,
+            rounds,
+            workers: _,
+        } => {
+            let drill = Drill {
+                seed: *seed,
+                rounds: *rounds,
+            };
+            run_drill(alloc, drill, output, draws, tiles)
+        }
     }
 }
 

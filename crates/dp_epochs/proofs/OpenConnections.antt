@@ -1,4 +1,4 @@
--- Open connections: which are found, and which stay so where one has become another.
+-- Open connections: which are found, and which stay so if one has become another.
 use Rattle.std.proofs.Common.{◌≡◌, ◌⊎◌, ℕ, ◌-◌, true, false, if◌then◌else◌, List, Option}
 use Rattle.std.proofs.Common.{None, Some}
 use Rattle.std.proofs.Common.{sym, ap, subst, ◌∙◌, ⊎_elim, inl, inr}
@@ -32,7 +32,7 @@ pub found_is_open : (cs : List Connection) (conn : ℕ) (c : Connection) → num
     → is_open c ≡ true → open_in cs conn ≡ Some c
 found_is_open cs conn c found up = ap where_open found ∙ ap (λ b. if b then Some c else None) up
 
--- where an open connection has become another, the others stay open
+-- if an open connection has become another, the others stay open
 pub other_stays_open : (cs : List Connection) (conn : ℕ) (c d : Connection) (n : ℕ) (x : Connection)
     → open_in cs conn ≡ Some c → (n ≡ conn → ⊥) → open_in cs n ≡ Some x
     → open_in (slice_set cs (conn - 1) d) n ≡ Some x

@@ -27,7 +27,7 @@ pub record Past : Type 0 where
   pub quiet : List ℕ
   -- how many puts of the keeper had failed when one of this session failed first
   pub first_fault : Option ℕ
-  -- the keeper's rows, where they are known
+  -- the keeper's rows, if they are known
   pub known : Option (List Row)
   -- how many of its puts have failed
   pub count : ℕ
@@ -130,7 +130,7 @@ pub record Refuses (old : Past) (e : Event) (refusal answer : Reply) (new : Past
   pub after : new ≡ refused old e
 
 -- What may be answered, by whether a put has failed before: then that fault, for ever; else that
--- the session has ended, exactly where there is no room; else the event's own answer, or the first
+-- the session has ended, exactly if there is no room; else the event's own answer, or the first
 -- fault.
 abbrev pub Serves : Option ℕ → Past → Event → Reply → Past → Type 0
 Serves (Some first) old e answer new = Refuses old e (StoreFault first) answer new

@@ -18,7 +18,7 @@ use Rattle.dp_epochs.specs.Past.{Past, state_of}
 abbrev pub page : ℕ → ℕ → List Entry → List Entry
 page at most history = take (max 1 most) (drop at history)
 
--- entries of the live epoch, of which this much counts: from the cursor on, where that is of the
+-- entries of the live epoch, of which this much counts: from the cursor on, if that is of the
 -- live epoch, or else from its beginning
 abbrev pub pulled_from : State → ℕ → ℕ → ℕ → List Entry → Answer
 pulled_from s epoch at most history =

@@ -68,7 +68,7 @@ epoch_of s = length s.ended
 abbrev pub histories : State → List (List Entry)
 histories s = s.ended ++ s.live ∷ []
 
--- the history of an epoch; nothing, where there is no such epoch yet
+-- the history of an epoch; nothing, if there is no such epoch yet
 abbrev pub history_of : State → ℕ → List Entry
 history_of s epoch = slice_index_or (histories s) epoch []
 
@@ -146,7 +146,7 @@ abbrev pub next_owner : Option ℕ → List Entry
 next_owner None = []
 next_owner (Some user) = server_entry (Owners (user ∷ [])) ∷ []
 
--- who becomes operator when the user joins: the user, where nobody is present
+-- who becomes operator when the user joins: the user, if nobody is present
 abbrev pub owner_on_join : State → ℕ → Option ℕ
 owner_on_join s user = if list_any (is_present s) user_ids then None else Some user
 
@@ -204,7 +204,7 @@ left s conn connection =
       stream = stream_without conn s.stream;
     }
 
--- Who becomes operator after the Leave of a user who was operator or not: where no operator is
+-- Who becomes operator after the Leave of a user who was operator or not: if no operator is
 -- present any more, but somebody is, the lowest present id.
 abbrev pub owner_on_leave : Bool → State → Option ℕ
 owner_on_leave was_operator s =
@@ -282,7 +282,7 @@ epoch_opened s stream = record s {
 
 -- ---- saying
 
--- what becomes of a message that is the user's own affair: it is placed where it is permitted
+-- what becomes of a message that is the user's own affair: it is placed if it is permitted
 abbrev pub judged : State → Connection → Msg → Decision
 judged s connection m =
     if permitted s.live connection.user m then decision.Place else decision.Filter
@@ -292,7 +292,7 @@ abbrev pub commands_by : ℕ → Option Stream → Option (List Draw)
 commands_by conn None = None
 commands_by conn (Some stream) = if stream.owner == conn then Some stream.commands else None
 
--- the same, where the connection's user is operator
+-- the same, if the connection's user is operator
 abbrev pub reset_of : State → ℕ → Connection → Option (List Draw)
 reset_of s conn connection =
     if is_operator s.live connection.user then commands_by conn s.stream else None
@@ -329,7 +329,7 @@ heard s conn connection (msg.Part command) = part_decided command (reset_of s co
 heard s conn connection m = judged s connection m
 
 -- What becomes of a message that the open connection of this number says. An Ack of the epoch
--- counts where the epoch is the live one and the connection hasn't taken it up.
+-- counts if the epoch is the live one and the connection hasn't taken it up.
 abbrev pub decided : State → ℕ → Connection → Msg → Decision
 decided s conn connection (msg.Control (Ping pong)) = decision.Ignore
 decided s conn connection (msg.Control (Disconnect reason)) = decision.Ignore

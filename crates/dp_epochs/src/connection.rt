@@ -26,7 +26,7 @@ pub enum Ending {
 #[derive(Clone, Copy, Debug, PartialEq, Eq)]
 pub struct Connection {
     pub user: u8,
-    /// The epoch that the user has taken up last. What a connection says counts where this is the
+    /// The epoch that the user has taken up last. What a connection says counts if this is the
     /// live one.
     pub acknowledged: u32,
     /// Where the user's Join stands.

@@ -106,8 +106,8 @@ pub fn histories_are_permitted()
     ensures { (past : Past) (epoch : ℕ) → ArePermitted (history_of (state_of past) epoch) }
 {}
 
-/// How an epoch opens: with the mark of its number, after which no other stands, where none is
-/// kept. Who is present has joined last as before, where no Join of the user is kept.
+/// How an epoch opens: with the mark of its number, after which no other stands, if none is
+/// kept. Who is present has joined last as before, if no Join of the user is kept.
 pub fn openings()
     ensures marked { (epoch : ℕ) (history : List Entry) (present : List ℕ) (commands : List Draw)
         (kept : List Entry) → HasNoMark kept

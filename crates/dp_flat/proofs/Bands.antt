@@ -149,7 +149,7 @@ chunk_text format board y col size count colors bytes band down few across same 
     (part_long start size count bytes same (omega arith)) each)
     ∙ bytes_text format f (below count)
 
--- the text of a chunk of the row y, where its tile is of one colour
+-- the text of a chunk of the row y, if its tile is of one colour
 pub solid_text : (format : Format) (board : Board) (y row col count : ℕ) (color : List ℕ)
     (colors : List (Option (List ℕ))) (bytes : List (List ℕ))
     → IsBand board row colors bytes → get_or colors col None ≡ Some color → y / 64 ≡ row

@@ -151,7 +151,7 @@ flat_row board m n parent row rows x y start true step rest =
     rest (laid_on board m x y start row)
     ∙ ap (λ s. composed_by board n parent rows x y s) step
 
--- where no row is a group, it makes no difference how deep groups are gone down into
+-- if no row is a group, it makes no difference how deep groups are gone down into
 flat_rows : (board : Board) (m n parent : ℕ) (rows : List LayerRow) (x y : ℕ) (start : Channels)
     → ((k : ℕ) (d : LayerRow) → k < length rows → (get_or rows k d).group ≡ false)
     → composed_by board m parent rows x y start ≡ composed_by board n parent rows x y start

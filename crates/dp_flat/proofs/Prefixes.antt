@@ -47,7 +47,7 @@ before_cut a b c piece text before some =
     subst (GrowsByPrefix a c) before.whole (grows_after a b c before.bytes piece before.appended
     some)
 
--- the last piece was written, where the call says so
+-- the last piece was written, if the call says so
 pub last_written : {T E : Type 0} (a b c : Option (List ℕ)) (piece last text : List ℕ)
     (result : Result T E) → GrowsBefore a b piece text → last ≡ piece
     → OnOk result (Appends b c last) → OnOk result (Appends a c text)
@@ -62,7 +62,7 @@ pub last_cut : (a b c : Option (List ℕ)) (piece last text : List ℕ) → Grow
 last_cut a b c piece last text before is some = before_cut a b c piece text before
     (subst (GrowsByPrefix b c) is some)
 
--- what holds however a call ended holds where it failed
+-- what holds however a call ended holds if it failed
 pub where_failed : {T E : Type 0} (X : Type 0) (result : Result T E) → X → OnErr result X
 where_failed X (Err e) is = is
 where_failed X (Ok done) is = tt

@@ -24,7 +24,7 @@ rgb_text P3 c =
 abbrev pub black : List ℕ
 black = 0 ∷ 0 ∷ 0 ∷ []
 
--- the bytes at a place of a list, where all are of one colour, if one is given, and else are these
+-- the bytes at a place of a list, if all are of one colour, if one is given, and else are these
 abbrev pub band_rgb : Option (List ℕ) → List (List ℕ) → ℕ → List ℕ
 band_rgb (Some color) bytes k = color
 band_rgb None bytes k = slice_index_or bytes k black

@@ -21,7 +21,7 @@ use dp_plain::BoardView;
 pub(crate) const LEVELS: usize = 16;
 
 /// How deep groups are gone down into for the picture of a board: one level, for the root's rows,
-/// where no row is a group.
+/// if no row is a group.
 pub(crate) fn depth_of<V: BoardView>(board: &V) -> usize
     ensures few { result ≤ LEVELS }
     ensures some { 1 ≤ result }

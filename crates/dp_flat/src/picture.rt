@@ -65,8 +65,8 @@ impl From<AllocError> for PictureEnd {
 ///
 /// # Errors
 ///
-/// `Memory` where memory for two tiles, or for 17 where a row is a group, or for the bytes of a row
-/// of tiles is refused: nothing was written. `Failed` where the sink failed: a prefix of the file
+/// `Memory` if memory for two tiles, or for 17 if a row is a group, or for the bytes of a row
+/// of tiles is refused: nothing was written. `Failed` if the sink failed: a prefix of the file
 /// was written.
 pub fn write_p6<V: BoardView, S: Sink>(
     alloc: Global,
@@ -88,8 +88,8 @@ pub fn write_p6<V: BoardView, S: Sink>(
 ///
 /// # Errors
 ///
-/// `Memory` where memory for two tiles, or for 17 where a row is a group, or for the bytes of a row
-/// of tiles is refused: nothing was written. `Failed` where the sink failed: a prefix of the file
+/// `Memory` if memory for two tiles, or for 17 if a row is a group, or for the bytes of a row
+/// of tiles is refused: nothing was written. `Failed` if the sink failed: a prefix of the file
 /// was written.
 pub fn write_p3<V: BoardView, S: Sink>(
     alloc: Global,
@@ -108,13 +108,13 @@ pub fn write_p3<V: BoardView, S: Sink>(
 }
 
 /// Writes the picture of the board as a P6 file. So many workers draw a row of tiles each at the
-/// same time, where 0 is 1. A row of tiles passes the gate by its place among those that are drawn
+/// same time, if 0 is 1. A row of tiles passes the gate by its place among those that are drawn
 /// with it. A piece of at most 49152 bytes is written at a time.
 ///
 /// # Errors
 ///
-/// `Memory` where memory is refused, of which each worker needs as much as `write_p6`: nothing was
-/// written. `Failed` where the sink failed: a prefix of the file was written.
+/// `Memory` if memory is refused, of which each worker needs as much as `write_p6`: nothing was
+/// written. `Failed` if the sink failed: a prefix of the file was written.
 pub fn write_p6_by<R: Threads + Sync, V: BoardView + Sync, S: Sink, G: Gate>(
     rt: &R,
     alloc: Global,
@@ -272,7 +272,7 @@ struct DrawnBand<'a> {
     bytes: &'a [Rgb],
 }
 
-/// Adds the text of a row of tiles to the piece, and writes the piece where it is full.
+/// Adds the text of a row of tiles to the piece, and writes the piece if it is full.
 fn put_band<V: BoardView, S: Sink>(
     format: Format,
     board: &V,
@@ -336,7 +336,7 @@ impl Line<'_> {
     }
 }
 
-/// Adds the text of each row of pixels of a row of tiles, where each tile is of one colour. Says
+/// Adds the text of each row of pixels of a row of tiles, if each tile is of one colour. Says
 /// whether so.
 fn push_line<V: BoardView>(
     format: Format,
@@ -380,7 +380,7 @@ fn put_text<S: Sink>(text: &[u8], piece: &mut Piece, out: &mut S) -> Result<(), 
     Ok(())
 }
 
-/// Adds the text of the row y to the piece, and writes the piece where it is full.
+/// Adds the text of the row y to the piece, and writes the piece if it is full.
 fn put_next<V: BoardView, S: Sink>(
     format: Format,
     board: &V,
@@ -462,7 +462,7 @@ fn put_chunk<S: Sink>(
     Ok(())
 }
 
-/// Writes the piece, where it has no room for so many bytes.
+/// Writes the piece, if it has no room for so many bytes.
 fn make_room<S: Sink>(count: usize, piece: &mut Piece, out: &mut S) -> Result<(), Failed>
     requires { count ≤ PIECE_BYTES }
     ensures room { OnOk result (array_vec_len piece.new + count ≤ PIECE_BYTES) }

@@ -86,7 +86,7 @@ impl SolidText {
         }
     }
 
-    /// The bytes of the text of a chunk of this colour, made anew where another one is kept.
+    /// The bytes of the text of a chunk of this colour, made anew if another one is kept.
     fn bytes_of(&mut self, format: Format, color: Rgb) -> &[u8]
         ensures value { result.now ≡ flat_map (rgb_text format) (replicate 64 color) }
         ensures short { length result.now ≤ CHUNK_BYTES }
@@ -202,7 +202,7 @@ pub(crate) fn push_all<const CAP: usize>(bytes: &[u8], piece: &mut ArrayVec<u8, 
     }
 }
 
-/// Adds the bytes one by one, which is faster where they are few.
+/// Adds the bytes one by one, which is faster if they are few.
 #[inline]
 fn push_few<const CAP: usize>(bytes: &[u8], piece: &mut ArrayVec<u8, CAP>)
     requires { array_vec_len piece.old + length bytes.now ≤ CAP }

@@ -1,19 +1,36 @@
 -- What the calls of seats add up to.
 use Rattle.std.specs.Prelude.{sum_by}
 use Rattle.std.proofs.Common.{◌≡◌, ◌⊎◌, ℕ, ◌+◌, List, [], ◌∷◌, ◌++◌, length, sym, refl, ap, ◌∙◌}
-use Rattle.std.proofs.Common.{subst, ⊎_elim, inl, inr, arith}
+use Rattle.std.proofs.Common.{subst, ⊎_elim, inl, inr, arith, Bool, append_assoc}
 use Rattle.std.proofs.lemmas.List.Sums.{sum_by-cons}
 use mathlib.Core.List.{map-append}
 use Rattle.dp_hall.specs.declared.view.Entry.{Entry}
 use Rattle.dp_hall.specs.declared.view.View.{View}
+use Rattle.dp_hall.specs.declared.listener.Acted.{Acted}
 use Rattle.dp_hall.specs.Logs.{is_same_name, entries_by}
 use Rattle.dp_hall.specs.Names.{IsIn, AreDistinct, old_names}
-use Rattle.dp_hall.specs.Calls.{SplitsInto, JoinsInto, IsAlone, Closes}
+use Rattle.dp_hall.specs.Calls.{ActsEach, SplitsInto, JoinsInto, IsAlone, Closes}
 use Rattle.dp_hall.specs.Rule.{child_name}
 use Rattle.dp_hall.specs.Laws.{Continues, Rejoins, AllBackBut, entry_count}
 use Rattle.dp_hall.proofs.ListLemmas.{in_more, in_both, in_left, in_right, same_self, same_not}
 
 module _ {E O M : Type 0} where
+  pub each-continues : (v w : View E O M) (follows : O → Bool) (events : List E) (acted : Acted O)
+      (acts : ActsEach follows v events acted w) → Continues v acts.entries w
+  each-continues v w follows events acted acts =
+      let g = acts.grows in
+      let same = ap (λ (x : View E O M). x.known) g.same in
+      let more = g.more in record {
+        mine = g.mine;
+        seen = (
+          g.between ++ acts.entries,
+          sym (append_assoc v.seen g.between acts.entries)
+              ∙ sym g.seen,
+        );
+        known = omega (arith, more, same);
+        same = g.same ∙ (λ i. record v { mine = w.mine; seen = w.seen; known = sym same i });
+      }
+
   -- ---- which seats are still to be joined
 
   pub back-calls : (v w : View E O M) (xs : List (Entry E O M)) (out : List (List ℕ))

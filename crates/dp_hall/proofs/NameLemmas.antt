@@ -1,4 +1,4 @@
--- The rule on names, where a seat is split and where two are joined.
+-- The rule on names, if a seat is split and if two are joined.
 use Rattle.std.proofs.Common.{◌≡◌, ◌≢◌, ◌⊎◌, ℕ, ◌+◌, ◌<◌, true, false, List, [], ◌∷◌, ◌++◌, length}
 use Rattle.std.proofs.Common.{set, sym, refl, ap, ◌∙◌, subst, ⊎_elim, inl, inr, arith, length-set}
 use Rattle.std.proofs.Common.{length-append, append_assoc, true≢false}
@@ -80,7 +80,7 @@ module _ {E O M : Type 0} where
       right_lives : Lives after (length ts) w
       right_lives = (at_last (set ts id l) w (length ts) (length-set ts id l), refl)
 
-      -- where a name of the seats after the split was before it: with the same seat, or nowhere
+      -- if a name of the seats after the split was before it: with the same seat, or nowhere
       Was : ℕ → List ℕ → Type 0
       Was j x = ((t : Tag E O M) × Lives ts j t × IsIn x (names_of t)) ⊎ ((x ≡ n) × (j ≡ length ts))
 
@@ -113,7 +113,7 @@ module _ {E O M : Type 0} where
           (λ e. (id, l, left_lives, on (subst P (same_tag ts k id u v there at e) h)))
           (λ other. (k, u, still k u other there, h))
 
-      -- where a name in a `made` after the split was before it: with the same seat, or it is the
+      -- if a name in a `made` after the split was before it: with the same seat, or it is the
       -- new one
       made_was : (j : ℕ) (s : Tag E O M) (x : List ℕ) → Lives after j s → IsIn x s.made
           → ((t : Tag E O M) × Lives ts j t × IsIn x t.made) ⊎ ((x ≡ n) × (j ≡ id))
@@ -324,7 +324,7 @@ module _ {E O M : Type 0} where
         at.1,
       )
 
-      -- where a name in a list of a seat's was before the join, if the two lists were put together
+      -- if a name in a list of a seat's was before the join, if the two lists were put together
       Came : (Tag E O M → List (List ℕ)) → ℕ → List ℕ → Type 0
       Came f j x = (i : ℕ) × (t : Tag E O M) × Lives ts i t × IsIn x (f t)
           × (((i ≢ o) × (j ≡ i)) ⊎ ((i ≡ o) × (j ≡ id)))

@@ -1,4 +1,4 @@
--- A hall may be shared and a seat may go to another thread, where the machine may.
+-- A hall may be shared and a seat may go to another thread, if the machine may.
 use denote.RattleType.{RattleType}
 use denote.Param.Send.{IsSend, IsSync, sendable}
 use Rattle.std.proofs.Crossing.{crosses}

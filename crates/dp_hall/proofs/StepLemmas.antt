@@ -24,7 +24,7 @@ use Rattle.dp_hall.specs.Logs.{IsLegal, left_by}
 use Rattle.dp_hall.specs.Names.{IsIn, AreDistinct, children, Tag, tag, names_of, Lives, Named}
 use Rattle.dp_hall.specs.Names.{Logged}
 use Rattle.dp_hall.specs.Rule.{first_view, FitsLog, IsKept, SeatState, took, with_entry}
-use Rattle.dp_hall.specs.Rule.{stored_entry, counted, given_back, looked}
+use Rattle.dp_hall.specs.Rule.{stored_entry, counted, given_back, looked, stayed}
 use Rattle.dp_hall.proofs.ListLemmas.{at_inside, prefix_all, prefix_more, in_more, in_map, not_true}
 use Rattle.dp_hall.proofs.ListLemmas.{is_not, legal_more, entries_same, entries_other}
 
@@ -44,7 +44,7 @@ module _ {E O M : Type 0} (may : M → E → O → M → Type 0) (start : M) whe
   some_is : (a b : V) (o : maybe.Option V) → o ≡ some a → o ≡ some b → a ≡ b
   some_is a b o p q = some-injective a b (sym p ∙ q)
 
-  -- a fact of all views, where one of them changes
+  -- a fact of all views, if one of them changes
   pub views_stay : (P : ℕ → V → Type 0) (vs : List V) (me : ℕ) (w : V) → P me w
       → ((j : ℕ) (v : V) → j ≢ me → get_elem? vs j ≡ some v → P j v)
       → (j : ℕ) (v : V) → get_elem? (set vs me w) j ≡ some v → P j v
@@ -61,9 +61,9 @@ module _ {E O M : Type 0} (may : M → E → O → M → Type 0) (start : M) whe
       → Lives (map tag vs) i (tag v)
   lives vs i v at live = (at_map tag vs i v at, live)
 
-  -- ---- whose turn it is, where one view changes
+  -- ---- whose turn it is, if one view changes
 
-  -- a view that holds, where the one that changed held before if it holds now
+  -- a view that holds, if the one that changed held before if it holds now
   pub held_before : (vs : List V) (me : ℕ) (v w : V) → get_elem? vs me ≡ some v
       → (w.holds ≡ true → v.holds ≡ true)
       → (j : ℕ) (u : V) → get_elem? (set vs me w) j ≡ some u
@@ -181,6 +181,40 @@ module _ {E O M : Type 0} (may : M → E → O → M → Type 0) (start : M) whe
           idle = f.idle;
         },
         (refl, refl, more, λ h. count ∙ ap length (sym (f.held h))),
+      )
+
+  -- a word behind those that the rule reads
+  pub stays : (slots id i k : ℕ) (f : ℕ → ℕ) (me : SeatState E O M) → 1 < i
+      → Allows Rule slots id me i f (stayed (step slots i k 0 none) me)
+  stays slots id i k f me far s r deep at small =
+      let v : V = me.0 in let n : ℕ = f (get_or s.words i 0) in
+      let turned : get_or (set s.words i n) 1 0 ≡ get_or s.words 1 0 =
+      get_or-set_other s.words i 1 n 0 (λ e. omega (arith, e, far)) in (
+        v,
+        keeps,
+        tt,
+        record {
+          log = r.log;
+          legal = r.legal;
+          turn = record {
+            wide = length-set s.words i n ∙ r.turn.wide;
+            count = get_or-set_other s.words i 0 n 0 (λ e. omega (arith, e, far)) ∙ r.turn.count;
+            home = λ z. r.turn.home (sym turned ∙ z);
+            nobody = λ z. views_stay (λ j u. u.holds ≡ false) s.views id v
+                (r.turn.nobody (sym turned ∙ z) id v at)
+                (λ j u _ here. r.turn.nobody (sym turned ∙ z) j u here);
+            somebody = λ ne. let t = r.turn.somebody (λ z. ne (turned ∙ z)) in
+                some_stays s.views id v v at (λ h. h) t.0 t.1 t.2 t.3;
+            one = one_stays s.views id v v at (λ h. h) r.turn.one;
+          };
+          each = views_stay (λ j u. FitsLog start r.log u) s.views id v (r.each id v at)
+              (λ j u _ here. r.each j u here);
+          named = subst (λ (ts : List (Tag E O M)). Named ts)
+              (sym (tags_stay s.views id v v at refl)) r.named;
+          logged = subst (λ (ts : List (Tag E O M)). Logged ts r.log)
+              (sym (tags_stay s.views id v v at refl)) r.logged;
+        },
+        (refl, refl),
       )
 
   pub takes_turn : (slots id : ℕ) (me : SeatState E O M) → me.1 ≡ [] → me.0.live ≡ true
@@ -421,7 +455,7 @@ module _ {E O M : Type 0} (may : M → E → O → M → Type 0) (start : M) whe
   only a b (suc i) e = absurd (some-ne-none b (sym e))
 
   pub opens : (stored : Stored E O M) → stored.machine.value ≡ start
-      → Rule (opening (0 ∷ 0 ∷ 0 ∷ []) (Some stored ∷ []) (first_view start))
+      → Rule (opening (0 ∷ 0 ∷ 0 ∷ 0 ∷ 0 ∷ []) (Some stored ∷ []) (first_view start))
   opens stored is = record {
     log = [];
     legal = tt;

@@ -1,20 +1,24 @@
 -- What the steps of a call make of a view, put together.
 use Rattle.std.proofs.Common.{◌≡◌, ℕ, ◌+◌, ◌≤◌, true, false, List, [], ◌∷◌, ◌++◌, length, sym, refl}
-use Rattle.std.proofs.Common.{ap, ◌∙◌, subst, arith, Some, le_refl, length-append}
+use Rattle.std.proofs.Common.{ap, ◌∙◌, subst, arith, Some, None, le_refl, length-append, zero, suc}
+use Rattle.std.proofs.Common.{◌<◌, take, drop, get_or, append-nil}
+use Rattle.std.proofs.lemmas.List.{take_more}
 use mathlib.Core.List.{IsPrefix, map-append}
 use Rattle.dp_hall.specs.declared.view.Entry.{Entry}
 use Rattle.dp_hall.specs.declared.view.View.{View}
 use Rattle.dp_hall.specs.declared.slot.Stored.{Stored}
 use Rattle.dp_hall.specs.Logs.{IsLegal, left_by}
-use Rattle.dp_hall.specs.Holding.{HasTurn}
+use Rattle.dp_hall.specs.declared.listener.Acted.{Acted}
+use Rattle.dp_hall.specs.Holding.{HasTurn, ActsOn, InTurn, ActsInTurn}
 use Rattle.std.specs.Prelude.{◌⊎◌, nat_le, Bool, if◌then◌else◌}
 use Rattle.std.proofs.Common.{inl, inr, ⊎_elim, append_assoc}
 use Rattle.std.proofs.lemmas.Bool.Decides.{nat_tests}
 use Rattle.dp_hall.specs.Names.{IsIn, AreDistinct, names}
 use Rattle.std.specs.declared.snapshot.Snapshot.{Snapshot}
-use Rattle.dp_hall.specs.Rule.{first_view, HasTaken, IsConfirmed, with_entry, stored_entry}
+use Rattle.dp_hall.specs.Rule.{HasTaken, IsConfirmed, with_entry, stored_entry}
 use Rattle.dp_hall.specs.Rule.{child_name, split_left, split_right, joined, longer, shorter}
 use Rattle.dp_hall.specs.Calls.{IsSound, Acts, Asks, SplitsInto, JoinsInto}
+use Rattle.dp_hall.specs.Calls.{IsActOf, AreActs, Grows, ActsEach}
 use Rattle.dp_hall.proofs.ListLemmas.{prefix_all, in_more, distinct_apart, same_prefix}
 use Rattle.dp_hall.proofs.ListLemmas.{children-one}
 use Rattle.dp_hall.proofs.ListLemmas.{left_more, legal_more, entries_same}
@@ -70,83 +74,226 @@ module _ {E O M : Type 0} (may : M → E → O → M → Type 0) where
         },
       )
 
-  pub acted : (v w z : View E O M) (machine after : M) (event : E) (outcome : O) (n : ℕ)
-      → IsSound may v → HasTaken may v w machine → may machine event outcome after
-      → z ≡ record (with_entry (record w { known = n }) (record
-      { by = v.name; event = event; outcome = outcome; left = after })) { holds = false }
-      → IsSound may z × Acts v event outcome z
-  acted v w z machine after event outcome n sound h step e =
-      let entry : Entry E O M = record {
-        by = v.name;
-        event = event;
-        outcome = outcome;
-        left = after;
-      } in
+  -- a step that is counted
+  pub acts_on : (u p f : View E O M) (machine : M) (stored : Stored E O M) (ev : Snapshot E)
+      (out : Snapshot O) (event : E) (outcome : O) → HasTurn p machine → p ≡ u → ev.value ≡ event
+      → out.value ≡ outcome → may machine event outcome stored.machine.value
+      → f ≡ with_entry p (stored_entry p stored.machine.value ev out)
+      → ActsOn may u event outcome f
+  acts_on u p f machine stored ev out event outcome t same is gives step e = record {
+    entry = record { by = u.name; event = event; outcome = outcome; left = stored.machine.value };
+    is = record { by_is = refl; event_is = refl };
+    outcome_is = refl;
+    step = λ m begins. subst (λ (x : M). may x event outcome stored.machine.value)
+        (t.4 ∙ (λ i. left_by
+        (the_start t.0 m (sym t.3 ∙ (ap (λ (x : View E O M). x.start) same ∙ begins)) i)
+        (same i).seen)) step;
+    grows = e ∙ (λ i. with_entry (same i) (record {
+      by = (same i).name;
+      event = is i;
+      outcome = gives i;
+      left = stored.machine.value;
+    }));
+  }
+    where
+      the_start : (a b : M) → Some a ≡ Some b → a ≡ b
+      the_start a b e = cc (e)
+
+  -- a turn that was taken
+  pub turn_begun : (v w u : View E O M) (machine : M) (n : ℕ) → HasTaken may v w machine
+      → u ≡ record w { known = n } → n ≡ length w.seen → InTurn may v u []
+  turn_begun v w u machine n h e exact =
+      let is : u ≡ record v { holds = true; seen = w.seen; known = length w.seen } =
+      e ∙ (λ i. record (h.view i) { known = exact i }) in
+      subst (λ (x : View E O M). InTurn may v x []) (sym is) record {
+        between = h.longer.0;
+        seen = sym h.longer.1 ∙ sym (append-nil (v.seen ++ h.longer.0));
+        mine = sym (append-nil v.mine);
+        same = refl;
+        more = subst (λ (l : List (Entry E O M)). v.known ≤ length l) (sym h.longer.1) h.more;
+        legal = λ m begins. subst (λ (x : M). IsLegal may x w.seen)
+            (the_start h.legal.0 m (sym h.legal.1 ∙ begins)) h.legal.2;
+        own = h.mine;
+      }
+    where
+      the_start : (a b : M) → Some a ≡ Some b → a ≡ b
+      the_start a b e = cc (e)
+
+  -- a turn with one act more
+  pub turn_goes_on : (v u w : View E O M) (entries : List (Entry E O M)) (event : E) (outcome : O)
+      (a : ActsOn may u event outcome w) → InTurn may v u entries
+      → InTurn may v w (entries ++ a.entry ∷ [])
+  turn_goes_on v u w entries event outcome a h =
+      let e : Entry E O M = a.entry in
+      let is : w ≡ record v {
+        holds = true;
+        seen = u.seen ++ e ∷ [];
+        mine = u.mine ++ e ∷ [];
+        known = length u.seen + 1;
+      } = a.grows ∙ ap (λ (x : View E O M). with_entry x e) h.same in
+      let long : length (u.seen ++ e ∷ []) ≡ length u.seen
+      + 1 = length-append u.seen (e ∷ []) in
+      let name : e.by ≡ v.name = a.is.by_is ∙ ap (λ (x : View E O M). x.name) h.same in
+      subst (λ (x : View E O M). InTurn may v x (entries ++ e ∷ [])) (sym is) record {
+        between = h.between;
+        seen = ap (λ l. l ++ e ∷ []) h.seen
+            ∙ append_assoc (v.seen ++ h.between) entries (e ∷ []);
+        mine = ap (λ l. l ++ e ∷ []) h.mine ∙ append_assoc v.mine entries (e ∷ []);
+        same = λ i. record v {
+          holds = true;
+          seen = u.seen ++ e ∷ [];
+          mine = u.mine ++ e ∷ [];
+          known = sym long i;
+        };
+        more = h.more;
+        legal = λ m begins. legal_more may m u.seen e (h.legal m begins)
+            (a.step m (ap (λ (x : View E O M). x.start) h.same ∙ begins));
+        own = entries_same v.name u.seen e name ∙ ap (λ l. l ++ e ∷ []) h.own;
+      }
+
+  -- a turn that was given back
+  pub turn_ended : (v u z : View E O M) (entries : List (Entry E O M)) → IsSound may v
+      → InTurn may v u entries → z ≡ record u { holds = false } → IsSound may z × Grows v entries z
+  turn_ended v u z entries sound h e =
       let is : z ≡ record v {
         holds = false;
-        seen = w.seen ++ entry ∷ [];
-        mine = v.mine ++ entry
-            ∷ [];
-        known = length w.seen + 1;
-      } =
-      e ∙ ap (λ (x : View E O M). record (with_entry (record x { known = n }) entry)
-      { holds = false }) h.view in
-      let long : length (w.seen ++ entry ∷ []) ≡ length w.seen
-      + 1 = length-append w.seen (entry ∷ []) in
-      let legal : IsLegal may h.legal.0 (w.seen ++ entry ∷ []) = legal_more may h.legal.0 w.seen
-      entry h.legal.2 (subst (λ (m : M). may m event outcome after) h.legal.3 step) in
-      subst (λ (x : View E O M). IsSound may x × Acts v event outcome x) (sym is) (
+        seen = u.seen;
+        mine = u.mine;
+        known = length u.seen;
+      } = e ∙ ap (λ (x : View E O M). let y : View E O M = record x { holds = false } in y)
+      h.same in
+      let long : length u.seen ≡ length (v.seen ++ h.between) + length entries =
+      ap length h.seen ∙ length-append (v.seen ++ h.between) entries in
+      subst (λ (x : View E O M). IsSound may x × Grows v entries x) (sym is) (
         record {
           live = sound.live;
           rests = refl;
           alone = sound.alone;
-          legal = (h.legal.0, h.legal.1, legal);
-          seen_known = omega (arith, long);
-          mine = entries_same v.name w.seen entry refl ∙ ap (λ l. l ++ entry ∷ []) h.mine;
+          legal = (sound.legal.0, sound.legal.1, h.legal sound.legal.0 sound.legal.1);
+          seen_known = le_refl (length u.seen);
+          mine = h.own;
           distinct = sound.distinct;
           fresh = sound.fresh;
           counted = sound.counted;
         },
         record {
-          entry = entry;
-          between = h.longer.0;
-          event_is = refl;
-          outcome_is = refl;
-          by_is = refl;
-          seen = ap (λ l. l ++ entry ∷ []) (sym h.longer.1);
+          between = h.between;
+          seen = h.seen;
           more = let more = h.more in omega (arith, long, more);
-          mine = refl;
+          mine = h.mine;
           same = λ i. record v {
             holds = sym sound.rests i;
-            seen = w.seen ++ entry
-                ∷ [];
-            mine = v.mine ++ entry ∷ [];
-            known = sym long i;
+            seen = u.seen;
+            mine = u.mine;
+            known = length u.seen;
           };
         },
       )
 
-  -- the same by the steps that are taken
-  pub acts_counted : (v w u f z : View E O M) (machine : M) (stored : Stored E O M)
-      (ev : Snapshot E) (out : Snapshot O) (event : E) (outcome : O) (n : ℕ) → IsSound may v
-      → HasTaken may v w machine
-      → u ≡ record w { known = n } → ev.value ≡ event → out.value ≡ outcome
-      → may machine event outcome stored.machine.value
-      → f ≡ with_entry u (stored_entry u stored.machine.value ev out)
-      → z ≡ record f { holds = false } → IsSound may z × Acts v event outcome z
-  acts_counted v w u f z machine stored ev out event outcome n sound h is p q step e given =
-      let name : w.name ≡ v.name = ap (λ (x : View E O M). x.name) h.view in
-      let last : f ≡ with_entry (record w { known = n })
-      (record { by = v.name; event = event; outcome = outcome; left = stored.machine.value }) =
-      e ∙ (λ i. with_entry (is i) (record {
-        by = (ap (λ (x : View E O M). x.name) is ∙ name) i;
-        event = p i;
-        outcome = q i;
-        left = stored.machine.value;
-      })) in
-      acted v w z machine stored.machine.value event outcome n sound h step
-      (given ∙ ap (λ (x : View E O M). let y : View E O M = record x { holds = false } in y)
-      last)
+  -- one act of a turn
+  pub acts_once : (v u w z : View E O M) (event : E) (outcome : O) → IsSound may v
+      → InTurn may v u [] → ActsOn may u event outcome w → z ≡ record w { holds = false }
+      → IsSound may z × Acts v event outcome z
+  acts_once v u w z event outcome sound h a e =
+      let t = turn_ended v w z (a.entry ∷ []) sound (turn_goes_on v u w [] event outcome a h) e in
+      let g = t.1 in (
+        t.0,
+        record {
+          entry = a.entry;
+          between = g.between;
+          event_is = a.is.event_is;
+          outcome_is = a.outcome_is;
+          by_is = a.is.by_is ∙ ap (λ (x : View E O M). x.name) h.same;
+          seen = g.seen;
+          more = let more = g.more in omega (arith, more);
+          mine = g.mine;
+          same = g.same;
+        },
+      )
+
+  -- ---- several acts of a turn
+
+  acts_more : (follows : O → Bool) (name : List ℕ) (events : List E)
+      (entries : List (Entry E O M)) (event : E) (entry : Entry E O M)
+      → AreActs follows name events entries → IsActOf name event entry
+      → follows entry.outcome ≡ true
+      → AreActs follows name (events ++ event ∷ []) (entries ++ entry ∷ [])
+  acts_more follows name [] [] event entry acts is on = (is, on, tt)
+  acts_more follows name [] (x ∷ entries) event entry acts is on = absurd acts
+  acts_more follows name (x ∷ events) [] event entry acts is on = absurd acts
+  acts_more follows name (x ∷ events) (y ∷ entries) event entry acts is on =
+      (acts.0, acts.1, acts_more follows name events entries event entry acts.2 is on)
+
+  pub none_acted : (follows : O → Bool) (v u : View E O M) (events : List E)
+      → InTurn may v u [] → ActsInTurn may follows v (take 0 events) (record {
+        count = 0;
+        stop = None;
+      }) u
+  none_acted follows v u [] h = record { entries = []; turn = h; count = refl; by = tt }
+  none_acted follows v u (x ∷ events) h = record { entries = []; turn = h; count = refl; by = tt }
+
+  own_name : (v u : View E O M) (entries : List (Entry E O M)) (event : E) (entry : Entry E O M)
+      → InTurn may v u entries → IsActOf u.name event entry → IsActOf v.name event entry
+  own_name v u entries event entry h is = record {
+    by_is = is.by_is ∙ ap (λ (x : View E O M). x.name) h.same;
+    event_is = is.event_is;
+  }
+
+  pub one_more : (follows : O → Bool) (v u w : View E O M) (events : List E) (i n : ℕ) (x : E)
+      (outcome : O) → i < length events → get_or events i x ≡ x
+      → ActsOn may u x outcome w → follows outcome ≡ true
+      → ActsInTurn may follows v (take i events) (record { count = n; stop = None }) u
+      → ActsInTurn may follows v (take (i + 1) events) (record { count = n + 1; stop = None }) w
+  one_more follows v u w events i n x outcome inside at a on h =
+      let next : take (i + 1) events ≡ take i events ++ x ∷ [] =
+      take_more events i x inside ∙ ap (λ y. take i events ++ y ∷ []) at in record {
+        entries = h.entries ++ a.entry ∷ [];
+        turn = turn_goes_on v u w h.entries x outcome a h.turn;
+        count = ap (λ k. k + 1) h.count ∙ sym (length-append h.entries (a.entry ∷ []));
+        by = subst (λ l. AreActs follows v.name l (h.entries ++ a.entry ∷ [])) (sym next)
+            (acts_more follows v.name (take i events) h.entries x a.entry h.by
+            (own_name v u h.entries x a.entry h.turn a.is)
+            (ap follows a.outcome_is ∙ on));
+      }
+
+  pub last_one : (follows : O → Bool) (v u w : View E O M) (events : List E) (i n : ℕ) (x : E)
+      (outcome : O) → i < length events → get_or events i x ≡ x
+      → ActsOn may u x outcome w → follows outcome ≡ false
+      → ActsInTurn may follows v (take i events) (record { count = n; stop = None }) u
+      → ActsInTurn may follows v events (record { count = n + 1; stop = Some outcome }) w
+  last_one follows v u w events i n x outcome inside at a off h = record {
+    entries = h.entries ++ a.entry ∷ [];
+    turn = turn_goes_on v u w h.entries x outcome a h.turn;
+    count = ap (λ k. k + 1) h.count ∙ sym (length-append h.entries (a.entry ∷ []));
+    by = record {
+      earlier = take i events;
+      event = x;
+      later = drop (suc i) events;
+      before = h.entries;
+      last = a.entry;
+      events_are = split_at events i x inside at;
+      entries_are = refl;
+      acts = h.by;
+      is = own_name v u h.entries x a.entry h.turn a.is;
+      outcome_is = a.outcome_is;
+      stops = off;
+    };
+  }
+    where
+      split_at : (l : List E) (i : ℕ) (x : E) → i < length l → get_or l i x ≡ x
+          → l ≡ take i l ++ x ∷ drop (suc i) l
+      split_at [] i x less is = absurd (omega (arith, less))
+      split_at (y ∷ l) zero x less is = ap (λ z. z ∷ l) is
+      split_at (y ∷ l) (suc i) x less is =
+          ap (λ t. y ∷ t) (split_at l i x (omega (arith, less)) is)
+
+  -- the turn is given back after them
+  pub each_acted : (follows : O → Bool) (v u z : View E O M) (events : List E) (acted : Acted O)
+      → IsSound may v → ActsInTurn may follows v events acted u → z ≡ record u { holds = false }
+      → IsSound may z × ActsEach follows v events acted z
+  each_acted follows v u z events acted sound h e =
+      let t = turn_ended v u z h.entries sound h.turn e in
+      (t.0, record { entries = h.entries; grows = t.1; count = h.count; by = h.by })
 
 module _ {E O M : Type 0} where
   -- the longer of two lists, of which the shorter begins it

@@ -1,10 +1,11 @@
 -- What callers see of a hall and of a seat.
-use Rattle.std.specs.Prelude.{◌≡◌, ◌⊎◌, ℕ, ◌+◌, ◌<◌, ◌≤◌, true, false}
-use Rattle.std.specs.Prelude.{List, [], ◌∷◌, ◌++◌, length, max, Some}
+use Rattle.std.specs.Prelude.{◌≡◌, ◌⊎◌, ℕ, ◌+◌, ◌<◌, ◌≤◌, Bool, true, false, ⊤}
+use Rattle.std.specs.Prelude.{List, [], ◌∷◌, ◌++◌, length, max, Option, Some, None}
 use mathlib.Core.List.{IsPrefix}
 use Rattle.atomic_table.specs.Seated.{TableId}
 use Rattle.dp_hall.specs.declared.view.Entry.{Entry}
 use Rattle.dp_hall.specs.declared.view.View.{View}
+use Rattle.dp_hall.specs.declared.listener.Acted.{Acted}
 use Rattle.dp_hall.specs.Logs.{IsLegal, left_by, entries_by}
 use Rattle.dp_hall.specs.Names.{IsIn, AreDistinct, children, old_names, names}
 
@@ -52,6 +53,60 @@ pub record Acts {E O M : Type 0} (v : View E O M) (event : E) (outcome : O) (w :
   pub mine : w.mine ≡ v.mine ++ entry ∷ []
   pub same : w ≡ record v { seen = w.seen; mine = w.mine; known = length w.seen }
 
+-- the entry is an act of this event under the name
+pub record IsActOf {E O M : Type 0} (name : List ℕ) (event : E) (entry : Entry E O M) : Type 0 where
+  pub by_is : entry.by ≡ name
+  pub event_is : entry.event ≡ event
+
+module _ {E O M : Type 0} where
+  -- the entries are acts of these events under the name, in order, and after each the next follows
+  abbrev pub AreActs : (O → Bool) → List ℕ → List E → List (Entry E O M) → Type 0
+  AreActs follows name [] [] = ⊤
+  AreActs follows name [] (entry ∷ entries) = ⊥
+  AreActs follows name (event ∷ events) [] = ⊥
+  AreActs follows name (event ∷ events) (entry ∷ entries) =
+      IsActOf name event entry × (follows entry.outcome ≡ true)
+      × AreActs follows name events entries
+
+-- the same up to one with this outcome, after which none follows
+pub record AreActsTo {E O M : Type 0} (follows : O → Bool) (name : List ℕ) (events : List E)
+    (entries : List (Entry E O M)) (outcome : O) : Type 0 where
+  pub earlier : List E
+  pub event : E
+  pub later : List E
+  pub before : List (Entry E O M)
+  pub last : Entry E O M
+  pub events_are : events ≡ earlier ++ event ∷ later
+  pub entries_are : entries ≡ before ++ last ∷ []
+  pub acts : AreActs follows name earlier before
+  pub is : IsActOf name event last
+  pub outcome_is : last.outcome ≡ outcome
+  pub stops : follows outcome ≡ false
+
+module _ {E O M : Type 0} where
+  -- by the outcome at which it stopped, if it did: acts of all these events, or of the first
+  abbrev pub ActsBy : (O → Bool) → List ℕ → List E → List (Entry E O M) → Option O → Type 0
+  ActsBy follows name events entries None = AreActs follows name events entries
+  ActsBy follows name events entries (Some outcome) =
+      AreActsTo follows name events entries outcome
+
+-- what was seen grew, by others' entries and then by these of its own
+pub record Grows {E O M : Type 0} (v : View E O M) (entries : List (Entry E O M)) (w : View E O M)
+    : Type 0 where
+  pub between : List (Entry E O M)
+  pub seen : w.seen ≡ (v.seen ++ between) ++ entries
+  pub more : v.known + length entries ≤ length w.seen
+  pub mine : w.mine ≡ v.mine ++ entries
+  pub same : w ≡ record v { seen = w.seen; mine = w.mine; known = length w.seen }
+
+-- acts of several events in one turn: nobody's entry stands between them
+pub record ActsEach {E O M : Type 0} (follows : O → Bool) (v : View E O M) (events : List E)
+    (acted : Acted O) (w : View E O M) : Type 0 where
+  pub entries : List (Entry E O M)
+  pub grows : Grows v entries w
+  pub count : acted.count ≡ length entries
+  pub by : ActsBy follows v.name events entries acted.stop
+
 -- a query: the log so far was seen
 pub record Asks {E O M : Type 0} (v w : View E O M) : Type 0 where
   pub longer : IsPrefix v.seen w.seen
@@ -85,7 +140,7 @@ pub record JoinsInto {E O M : Type 0} (v w both : View E O M) : Type 0 where
   pub made : both.made ≡ v.made ++ w.made
   pub splits : both.splits ≡ v.splits
 
--- the seat of the start, where each seat that was split off was joined into it, directly or with
+-- the seat of the start, if each seat that was split off was joined into it, directly or with
 -- another
 pub record IsAlone {E O M : Type 0} (v : View E O M) : Type 0 where
   pub name : v.name ≡ []

@@ -1,16 +1,20 @@
 -- What the steps of a turn need.
-use Rattle.std.specs.Prelude.{◌≡◌, true, false, [], ◌∷◌, Option, Some}
+use Rattle.std.specs.Prelude.{◌≡◌, ◌≤◌, Bool, true, false, List, [], ◌∷◌, ◌++◌, length, Option, Some}
 use Rattle.std.specs.declared.snapshot.Snapshot.{Snapshot}
 use Rattle.atomic_table.specs.Seated.{TableId}
 use Rattle.atomic_table.specs.declared.shared.Seat.{Seat}
+use Rattle.dp_hall.specs.declared.view.Entry.{Entry}
 use Rattle.dp_hall.specs.declared.view.View.{View}
 use Rattle.dp_hall.specs.declared.slot.Stored.{Stored}
-use Rattle.dp_hall.specs.Logs.{left_by}
+use Rattle.dp_hall.specs.declared.listener.Acted.{Acted}
+use Rattle.dp_hall.specs.Logs.{IsLegal, left_by, entries_by}
+use Rattle.dp_hall.specs.Rule.{with_entry}
+use Rattle.dp_hall.specs.Calls.{IsActOf, ActsBy}
 
--- the seat is of this table, which has three words and a slot
+-- the seat is of this table, which has five words and a slot
 pub record IsAt (table seat : TableId) : Type 0 where
   pub same : seat ≡ table
-  pub words : table.words ≡ 3
+  pub words : table.words ≡ 5
   pub slots : table.slots ≡ 1
 
 module _ {E O M : Type 0} where
@@ -39,3 +43,33 @@ pub record HasStepped {E O M : Type 0} (may : M → E → O → M → Type 0) (o
   pub event_is : ev.value ≡ event
   pub outcome_is : out.value ≡ outcome
   pub step_is : may old event outcome stored.machine.value
+
+-- The seat has the turn, and acted once more: a step of the machine that its log leaves is an entry
+-- of its own.
+pub record ActsOn {E O M : Type 0} (may : M → E → O → M → Type 0) (u : View E O M) (event : E)
+    (outcome : O) (w : View E O M) : Type 0 where
+  pub entry : Entry E O M
+  pub is : IsActOf u.name event entry
+  pub outcome_is : entry.outcome ≡ outcome
+  pub step : (m : M) → u.start ≡ Some m
+      → may (left_by m u.seen) entry.event entry.outcome entry.left
+  pub grows : w ≡ with_entry u entry
+
+-- the seat took the turn, and acted these entries since, with nothing between them
+pub record InTurn {E O M : Type 0} (may : M → E → O → M → Type 0) (v u : View E O M)
+    (entries : List (Entry E O M)) : Type 0 where
+  pub between : List (Entry E O M)
+  pub seen : u.seen ≡ (v.seen ++ between) ++ entries
+  pub mine : u.mine ≡ v.mine ++ entries
+  pub same : u ≡ record v { holds = true; seen = u.seen; mine = u.mine; known = length u.seen }
+  pub more : v.known ≤ length (v.seen ++ between)
+  pub legal : (m : M) → v.start ≡ Some m → IsLegal may m u.seen
+  pub own : entries_by v.name u.seen ≡ u.mine
+
+-- in that turn it acted events, of which that came
+pub record ActsInTurn {E O M : Type 0} (may : M → E → O → M → Type 0) (follows : O → Bool)
+    (v : View E O M) (events : List E) (acted : Acted O) (u : View E O M) : Type 0 where
+  pub entries : List (Entry E O M)
+  pub turn : InTurn may v u entries
+  pub count : acted.count ≡ length entries
+  pub by : ActsBy follows v.name events entries acted.stop

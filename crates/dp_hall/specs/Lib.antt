@@ -1,6 +1,6 @@
 pub mod Logs
 pub mod Names
 pub mod Rule
-pub mod Holding
 pub mod Calls
+pub mod Holding
 pub mod Laws

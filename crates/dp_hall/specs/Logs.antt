@@ -10,7 +10,7 @@ is_same_name (x ∷ xs) [] = false
 is_same_name (x ∷ xs) (y ∷ ys) = (x == y) && is_same_name xs ys
 
 module _ {E O M : Type 0} where
-  -- the machine that a log leaves: that of its last entry, or this one where it is empty
+  -- the machine that a log leaves: that of its last entry, or this one if it is empty
   abbrev pub left_by : M → List (Entry E O M) → M
   left_by m [] = m
   left_by m (e ∷ log) = left_by e.left log

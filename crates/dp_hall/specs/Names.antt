@@ -1,4 +1,4 @@
--- The names of seats: which were given out, by whom, and where they are now.
+-- The names of seats: which were given out, by whom, and if they are now.
 use Rattle.std.specs.Prelude.{◌≡◌, ◌⊎◌, ℕ, ◌+◌, ◌<◌, Bool, true, false, ◌&&◌, ◌==◌, if◌then◌else◌}
 use Rattle.std.specs.Prelude.{List, [], ◌∷◌, ◌++◌, map}
 use mathlib.Core.Option.{some}
@@ -82,7 +82,7 @@ pub record Named {E O M : Type 0} (tags : List (Tag E O M)) : Type 0 where
   -- that seat has the name without its last number, as its own or as that of a seat joined into it
   pub made : (i : ℕ) (s : Tag E O M) (n : List ℕ) → Lives tags i s → IsIn n s.made
       → IsChild n (names_of s)
-  -- where a name begins with a live seat's and is longer, its next number is below that seat's
+  -- if a name begins with a live seat's and is longer, its next number is below that seat's
   -- splits
   pub fresh : (i j : ℕ) (s t : Tag E O M) (k : ℕ) (more : List ℕ) → Lives tags i s → Lives tags j t
       → IsIn (s.name ++ k ∷ more) (names_of t) → k < s.splits

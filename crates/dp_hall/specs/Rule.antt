@@ -1,6 +1,7 @@
 -- The rule of the table, and what each step tells the seat that takes it. Word 0 is the number of
 -- acts that have ended. Word 1 is 1 while a seat has the turn. Word 2 never changes: who sleeps on
--- it is woken by time alone. Slot 0 has the machine, which is at home while nobody has the turn.
+-- it is woken by time alone. Words 3 and 4 count who sleeps until the turn is free, and until more
+-- acts have ended. Slot 0 has the machine, which is at home while nobody has the turn.
 use Rattle.std.specs.Prelude.{◌≡◌, ◌≢◌, ℕ, ◌+◌, ◌<◌, ◌≤◌, nat_le, max, true, false, if◌then◌else◌}
 use Rattle.std.specs.Prelude.{List, [], ◌∷◌, ◌++◌, map, length, slice_index, Option, Some, None}
 use mathlib.Core.Option.{some}
@@ -63,7 +64,7 @@ pub record FitsLog {E O M : Type 0} (start : M) (log : List (Entry E O M)) (v : 
 -- the count, and whose turn it is
 pub record Turn {E O M : Type 0} (start : M) (log : List (Entry E O M))
     (s : State (Option (Stored E O M)) (View E O M)) : Type 0 where
-  pub wide : length s.words ≡ 3
+  pub wide : length s.words ≡ 5
   pub count : slice_index s.words 0 ≡ length log
   -- while the turn is free, the machine that the log leaves is at home
   pub home : slice_index s.words 1 ≡ 0
@@ -149,6 +150,10 @@ module _ {E O M : Type 0} where
   looked st m r n =
       (n.0 ≡ record m.0 { known = r }) × (n.1 ≡ m.1) × (m.0.known ≤ r)
       × (m.0.holds ≡ true → r ≡ length m.0.seen)
+
+  -- a word that the rule does not read changed
+  abbrev pub stayed : Step (Option (Stored E O M)) → SeatState E O M → ℕ → SeatState E O M → Type 0
+  stayed st m r n = (n.0 ≡ m.0) × (n.1 ≡ m.1)
 
   -- what a split or a join left is sound
   abbrev pub confirmed : (M → E → O → M → Type 0)

@@ -1,11 +1,12 @@
 //! The hall, and its calls.
 
 ghost use Rattle.std.specs.Prelude.{◌≡◌, ◌<◌, ◌≤◌, IfOk, IfErr, OnErr, Some};
-ghost use Rattle.dp_hall.specs.Calls.{IsOf, Acts, Asks, IsSound};
+ghost use Rattle.dp_hall.specs.Calls.{IsOf, Acts, ActsEach, Asks, IsSound};
 ghost use Rattle.dp_hall.specs.Calls.{SplitsInto, JoinsInto, IsAlone, Closes};
 ghost use Rattle.dp_hall.specs.Logs.{left_by};
 ghost use Rattle.dp_hall.specs.Rule.{first_view};
 
+use crate::listener::{Acted, Listener};
 use crate::looking::Look;
 use crate::rule::HallRule;
 use crate::seat::Seat;
@@ -38,7 +39,7 @@ impl<M: Machine> Model for Hall<M> {
       start = h.table.shared.key.value;
     } };
 
-    ghost invariant = { λ h. (h.table.shared.table_id.words ≡ 3)
+    ghost invariant = { λ h. (h.table.shared.table_id.words ≡ 5)
         × (h.table.shared.table_id.slots ≡ 1) };
 }
 
@@ -53,7 +54,7 @@ impl<M: Machine> Hall<M> {
     ///
     /// # Errors
     ///
-    /// Where memory runs out. The machine comes back as it was.
+    /// If memory runs out. The machine comes back as it was.
     pub fn start(alloc: Global, machine: M) -> Result<(Hall<M>, Seat<M>), HallError<M>>
         ensures of { IfOk result (λ r. IsOf r.0 r.1) }
         ensures start { IfOk result (λ r. r.0.start ≡ machine) }
@@ -74,7 +75,7 @@ impl<M: Machine> Hall<M> {
                 return Err(machine_back(value));
             }
         }
-        match Table::new(alloc, &[0, 0, 0], slots, &about) {
+        match Table::new(alloc, &[0; 5], slots, &about) {
             Ok((table, token)) => Ok((Hall { table }, Seat { token })),
             Err(Refused { mut slots }) => {
                 let Some(slot) = slots.pop() else {
@@ -92,7 +93,7 @@ impl<M: Machine> Hall<M> {
     ///
     /// # Errors
     ///
-    /// Where memory ran out in the step. That is an outcome too, and an entry of the log.
+    /// If memory ran out in the step. That is an outcome too, and an entry of the log.
     pub fn act<R: Wait>(
         &self,
         rt: &R,
@@ -128,6 +129,25 @@ impl<M: Machine> Hall<M> {
         turn::act(rt, &self.table.shared, &mut seat.token, event)
     }
 
+    /// Acts the events one after the other in one turn, so that nobody acts between them. It stops
+    /// after an outcome that the listener lets nothing follow, and gives it. It wakes nobody:
+    /// `wake` does. Where the count of acts would pass the greatest `u64`, it waits for good, and
+    /// changes nothing.
+    pub fn act_each<R: Wait, L: Listener<M>>(
+        &self,
+        rt: &R,
+        seat: &mut Seat<M>,
+        events: &[M::Event],
+        listener: &mut L,
+    ) -> Acted<Result<M::Reply, AllocError>>
+        requires { IsOf self.now seat.old }
+        ensures of { IsOf self.now seat.new }
+        ensures entries { ActsEach L.follows seat.old.view events.now result seat.new.view }
+        ensures sound { IsSound M.may_step seat.new.view }
+    {
+        turn::act_each(rt, &self.table.shared, &mut seat.token, events, listener)
+    }
+
     /// Wakes those that wait for the count.
     pub fn wake(&self) {
         turn::wake(&self.table.shared);
@@ -137,7 +157,7 @@ impl<M: Machine> Hall<M> {
     ///
     /// # Errors
     ///
-    /// Where memory runs out. The seat has then seen the log all the same.
+    /// If memory runs out. The seat has then seen the log all the same.
     pub fn ask<R: Wait>(
         &self,
         rt: &R,

@@ -1,10 +1,12 @@
 //! Laws of halls, each the contract of a function that does nothing.
 
-ghost use Rattle.std.specs.Prelude.{◌≡◌, ◌≤◌, ℕ, List, [], ◌∷◌, ◌++◌, length, Result};
+ghost use Rattle.std.specs.Prelude.{◌≡◌, ◌≤◌, ℕ, List, [], ◌∷◌, ◌++◌, length, Bool, Result};
 ghost use Rattle.std.specs.declared.alloc.AllocError.{AllocError};
 ghost use Rattle.dp_hall.specs.declared.view.Entry.{Entry as Noted};
 ghost use Rattle.dp_hall.specs.declared.view.View.{View as Known};
-ghost use Rattle.dp_hall.specs.Calls.{IsSound, Acts, Asks, SplitsInto, JoinsInto, IsAlone, Closes};
+ghost use Rattle.dp_hall.specs.Calls.{IsSound, Acts, ActsEach, Asks, SplitsInto};
+ghost use Rattle.dp_hall.specs.Calls.{JoinsInto, IsAlone, Closes};
+ghost use Rattle.dp_hall.specs.declared.listener.Acted.{Acted as Came};
 ghost use Rattle.dp_hall.specs.Rule.{first_view};
 ghost use Rattle.dp_hall.specs.Laws.{Continues, Rejoins, AllBackBut, entry_count};
 
@@ -24,6 +26,8 @@ pub fn calls_add_up<E, O, M>()
     ensures none { (v : Known E O M) → Continues v [] v }
     ensures act { (v w : Known E O M) (event : E) (outcome : O) (act : Acts v event outcome w)
         → Continues v (act.entry ∷ []) w }
+    ensures each { (v w : Known E O M) (follows : O → Bool) (events : List E) (acted : Came O)
+        (acts : ActsEach follows v events acted w) → Continues v acts.entries w }
     ensures ask { (v w : Known E O M) → Asks v w → Continues v [] w }
     ensures count { (v : Known E O M) (n : ℕ) → v.known ≤ n
         → Continues v [] (record v { known = n }) }
@@ -66,7 +70,7 @@ fn crosses<T: Send>() {}
 /// What threads share.
 fn shares<T: Sync>() {}
 
-/// A hall may be shared, and its seats may cross threads, where the machine may.
+/// A hall may be shared, and its seats may cross threads, if the machine may.
 pub fn halls_cross_threads<M: Machine + Send>() {
     crosses::<Seat<M>>();
     shares::<Hall<M>>();

@@ -4,6 +4,7 @@
 
 mod hall;
 mod laws;
+mod listener;
 mod looking;
 mod rule;
 mod seat;
@@ -17,6 +18,7 @@ pub use laws::{
     calls_add_up, entries_add_up, halls_cross_threads, seats_are_sound, seats_come_back,
     seats_rejoin,
 };
+pub use listener::{Acted, Listener};
 pub use looking::Look;
 pub use seat::Seat;
 pub use view::{Entry, View};

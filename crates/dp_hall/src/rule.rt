@@ -64,6 +64,17 @@ impl<M: Machine> Play<SlotOf<M>, ViewOf<M>> for ReadCount<M> {
     ghost then = { looked };
 }
 
+/// A word that the rule does not read changes.
+pub struct Stay<M> {
+    of: PhantomData<M>,
+}
+
+impl<M: Machine> Play<SlotOf<M>, ViewOf<M>> for Stay<M> {
+    ghost use Rattle.dp_hall.specs.Rule.{stayed};
+
+    ghost then = { stayed };
+}
+
 /// A look after a split or a join: the whole table shows that the seat is sound.
 pub struct Confirm<M> {
     of: PhantomData<M>,

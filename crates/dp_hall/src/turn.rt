@@ -1,14 +1,18 @@
 //! The steps of a turn: it is taken, the machine is used, and it is given back.
 
-ghost use Rattle.std.specs.Prelude.{◌≡◌, ◌<◌, ◌≤◌, true, false, [], ◌∷◌, length};
-ghost use Rattle.std.specs.Prelude.{Some, None, IfOk};
+ghost use Rattle.std.specs.Prelude.{◌≡◌, ◌+◌, ◌^◌, ◌<◌, ◌≤◌, true, false, [], ◌∷◌, length};
+ghost use Rattle.std.specs.Prelude.{Some, None, IfOk, Result};
+ghost use Rattle.std.specs.declared.alloc.AllocError.{AllocError};
+ghost use Rattle.dp_hall.specs.declared.view.View.{View as Known};
 ghost use Rattle.dp_hall.specs.Rule.{HasTaken};
 ghost use Rattle.dp_hall.specs.Logs.{left_by};
-ghost use Rattle.dp_hall.specs.Calls.{Acts, Asks, IsSound, SplitsInto, JoinsInto};
+ghost use Rattle.dp_hall.specs.Calls.{Acts, ActsEach, Asks, IsSound, SplitsInto, JoinsInto};
 ghost use Rattle.dp_hall.specs.Holding.{IsAt, IsIdle, HasTurn, HasMachine, HasStepped};
+ghost use Rattle.dp_hall.specs.Holding.{ActsOn, InTurn, ActsInTurn};
 
+use crate::listener::{Acted, Listener};
 use crate::looking::Look;
-use crate::rule::{Confirm, Count, Give, HallRule, Pairing, ReadCount, Take};
+use crate::rule::{Confirm, Count, Give, HallRule, Pairing, ReadCount, Stay, Take};
 use crate::slot::{SlotOf, Stored, StoredOf};
 use crate::view::{OutcomeOf, ViewOf};
 use atomic_table::{Seat, Shared};
@@ -32,6 +36,12 @@ const TURN: usize = 1;
 /// The word that never changes.
 const REST: usize = 2;
 
+/// The word of how many sleep until the turn is free.
+const TURN_SLEEPERS: usize = 3;
+
+/// The word of how many sleep until more acts have ended.
+const COUNT_SLEEPERS: usize = 4;
+
 /// The slot of the machine.
 const MACHINE: usize = 0;
 
@@ -41,7 +51,7 @@ const LOOKS: u32 = 64;
 /// Looks at the turn until it is free, but not for long. A seat that has it may wait for a
 /// processor: another thread is let go on then.
 fn linger<M: Machine>(table: &HallTable<M>)
-    requires { table.now.table_id.words ≡ 3 }
+    requires { table.now.table_id.words ≡ 5 }
 {
     for _look in 0..LOOKS {
         if table.peek(TURN) == 0 {
@@ -50,6 +60,27 @@ fn linger<M: Machine>(table: &HallTable<M>)
         hint::spin_loop();
     }
     thread::yield_now();
+}
+
+/// Sleeps while the word is this, but not for good if it is not. Meanwhile it is one of the
+/// sleepers: who changes the word looks at their number afterwards, and wakes nobody if it is 0.
+fn sleep<M: Machine, R: Wait>(
+    rt: &R,
+    table: &HallTable<M>,
+    token: &mut TableSeat<M>,
+    word: usize,
+    expected: u32,
+    sleepers: usize,
+)
+    requires table { IsAt table.now.table_id token.old.table_id }
+    requires words { (word < 5) × (1 < sleepers) × (sleepers < 5) }
+    ensures table { token.new.table_id ≡ token.old.table_id }
+    ensures view { token.new.me.0 ≡ token.old.me.0 }
+    ensures hand { token.new.me.1 ≡ token.old.me.1 }
+{
+    table.fetch_add::<Stay<M>>(token, sleepers, 1);
+    table.park(rt, word, expected);
+    table.fetch_sub::<Stay<M>>(token, sleepers, 1);
 }
 
 /// Waits for the turn, and takes it with the machine.
@@ -65,7 +96,7 @@ fn take<M: Machine, R: Wait>(rt: &R, table: &HallTable<M>, token: &mut TableSeat
         if table.compare_exchange::<Take<M>>(token, TURN, 0, 1) == 0 {
             return table.exchange(token, MACHINE, None).unwrap();
         }
-        table.park(rt, TURN, 1);
+        sleep(rt, table, token, TURN, 1, TURN_SLEEPERS);
     }
     unreachable!()
 }
@@ -82,6 +113,27 @@ fn put<M: Machine>(table: &HallTable<M>, token: &mut TableSeat<M>, stored: Store
     let None = out else { unreachable!() };
 }
 
+/// Takes the machine in hand out of the slot.
+fn take_out<M: Machine>(table: &HallTable<M>, token: &mut TableSeat<M>) -> StoredOf<M>
+    requires table { IsAt table.now.table_id token.old.table_id }
+    requires hand { HasMachine token.old }
+    ensures table { IsAt table.now.table_id token.new.table_id }
+    ensures view { token.new.me.0 ≡ token.old.me.0 }
+    ensures hand { token.new.me.1 ≡ (0, None) ∷ [] }
+    ensures machine { HasTurn token.new.me.0 result.machine.value }
+{
+    table.exchange(token, MACHINE, None).unwrap()
+}
+
+/// Wakes one of those that sleep until the turn is free, if there is one.
+fn wake_next<M: Machine>(table: &HallTable<M>)
+    requires { table.now.table_id.words ≡ 5 }
+{
+    if table.peek(TURN_SLEEPERS) > 0 {
+        table.wake_one(TURN);
+    }
+}
+
 /// Gives the turn back with the machine.
 fn give<M: Machine>(table: &HallTable<M>, token: &mut TableSeat<M>)
     requires table { IsAt table.now.table_id token.old.table_id }
@@ -91,7 +143,7 @@ fn give<M: Machine>(table: &HallTable<M>, token: &mut TableSeat<M>)
     ensures hand { token.new.me.1 ≡ [] }
 {
     table.store::<Give<M>>(token, TURN, 0);
-    table.wake_one(TURN);
+    wake_next(table);
 }
 
 /// Puts the machine back, and gives the turn back.
@@ -128,8 +180,47 @@ fn step<M: Machine>(mut machine: Box<M>, event: &M::Event) -> (StoredOf<M>, Outc
     (Stored { machine, last }, outcome)
 }
 
-/// One event. Where the count is at its end, the turn is given back and the call waits for good. It
-/// wakes nobody who waits for the count.
+/// Takes the turn, with the machine in hand, for so many acts. Where the count would pass its end
+/// by them, the turn is given back and the call waits for good.
+fn begin<M: Machine, R: Wait>(rt: &R, table: &HallTable<M>, token: &mut TableSeat<M>, acts: usize)
+    requires table { IsAt table.now.table_id token.old.table_id }
+    requires idle { IsIdle token.old }
+    ensures table { IsAt table.now.table_id token.new.table_id }
+    ensures hand { HasMachine token.new }
+    ensures turn { InTurn M.may_step token.old.me.0 token.new.me.0 [] }
+    ensures room { length token.new.me.0.seen + acts < 2 ^ 64 }
+{
+    let stored = take(rt, table, token);
+    if u64::MAX - count(table, token) < acts as u64 {
+        give_back(table, token, stored);
+        for _ in rt.forever() {}
+        unreachable!()
+    }
+    put(table, token, stored);
+}
+
+/// One event, by a seat that has the turn.
+fn act_held<M: Machine>(
+    table: &HallTable<M>,
+    token: &mut TableSeat<M>,
+    event: &M::Event,
+) -> OutcomeOf<M>
+    requires table { IsAt table.now.table_id token.old.table_id }
+    requires hand { HasMachine token.old }
+    requires room { length token.old.me.0.seen + 1 < 2 ^ 64 }
+    ensures table { IsAt table.now.table_id token.new.table_id }
+    ensures hand { HasMachine token.new }
+    ensures acts { ActsOn M.may_step token.old.me.0 event.now result token.new.me.0 }
+{
+    let Stored { machine, last } = take_out(table, token);
+    drop(last);
+    let (stored, outcome) = step(machine, event);
+    put(table, token, stored);
+    table.fetch_add::<Count<M>>(token, COUNT, 1);
+    outcome
+}
+
+/// One event. It wakes nobody who waits for the count.
 pub(crate) fn act<M: Machine, R: Wait>(
     rt: &R,
     table: &HallTable<M>,
@@ -144,26 +235,70 @@ pub(crate) fn act<M: Machine, R: Wait>(
     ensures sound { IsSound M.may_step token.new.me.0 }
     ensures hand { token.new.me.1 ≡ [] }
 {
-    let Stored { machine, last } = take(rt, table, token);
-    drop(last);
-    if count(table, token) == u64::MAX {
-        let last = None;
-        give_back(table, token, Stored { machine, last });
-        for _ in rt.forever() {}
-        unreachable!()
-    }
-    let (stored, outcome) = step(machine, event);
-    put(table, token, stored);
-    table.fetch_add::<Count<M>>(token, COUNT, 1);
+    begin(rt, table, token, 1);
+    let outcome = act_held(table, token, event);
     give(table, token);
     outcome
 }
 
-/// Wakes those that wait for the count.
-pub(crate) fn wake<M: Machine>(table: &HallTable<M>)
-    requires { table.now.table_id.words ≡ 3 }
+/// The events, by a seat that has the turn, up to an outcome that nothing follows.
+fn act_all<M: Machine, L: Listener<M>>(
+    table: &HallTable<M>,
+    token: &mut TableSeat<M>,
+    events: &[M::Event],
+    listener: &mut L,
+) -> Acted<OutcomeOf<M>>
+    requires table { IsAt table.now.table_id token.old.table_id }
+    requires hand { HasMachine token.old }
+    requires room { length token.old.me.0.seen + length events.now < 2 ^ 64 }
+    ensures table { IsAt table.now.table_id token.new.table_id }
+    ensures hand { HasMachine token.new }
+    ensures acts { (v : Known M.Event (Result M.Reply AllocError) M)
+        → InTurn M.may_step v token.old.me.0 []
+        → ActsInTurn M.may_step L.follows v events.now result token.new.me.0 }
 {
-    table.wake_all(COUNT);
+    let mut count = 0;
+    for event in events {
+        let outcome = act_held(table, token, event);
+        count += 1;
+        if !listener.hear(&outcome) {
+            let stop = Some(outcome);
+            return Acted { count, stop };
+        }
+    }
+    Acted { count, stop: None }
+}
+
+/// The events in one turn, up to an outcome that nothing follows. It wakes nobody who waits for the
+/// count.
+pub(crate) fn act_each<M: Machine, R: Wait, L: Listener<M>>(
+    rt: &R,
+    table: &HallTable<M>,
+    token: &mut TableSeat<M>,
+    events: &[M::Event],
+    listener: &mut L,
+) -> Acted<OutcomeOf<M>>
+    requires table { IsAt table.now.table_id token.old.table_id }
+    requires idle { IsIdle token.old }
+    requires sound { IsSound M.may_step token.old.me.0 }
+    ensures table { IsAt table.now.table_id token.new.table_id }
+    ensures entries { ActsEach L.follows token.old.me.0 events.now result token.new.me.0 }
+    ensures sound { IsSound M.may_step token.new.me.0 }
+    ensures hand { token.new.me.1 ≡ [] }
+{
+    begin(rt, table, token, events.len());
+    let acted = act_all(table, token, events, listener);
+    give(table, token);
+    acted
+}
+
+/// Wakes those that wait for the count, if there are any.
+pub(crate) fn wake<M: Machine>(table: &HallTable<M>)
+    requires { table.now.table_id.words ≡ 5 }
+{
+    if table.peek(COUNT_SLEEPERS) > 0 {
+        table.wake_all(COUNT);
+    }
 }
 
 /// One query.
@@ -230,14 +365,15 @@ pub(crate) fn wait_past<M: Machine, R: Wait>(
         if seen > n {
             return seen;
         }
-        table.park(rt, COUNT, (seen & 0xffff_ffff) as u32);
+        let expected = (seen & 0xffff_ffff) as u32;
+        sleep(rt, table, token, COUNT, expected, COUNT_SLEEPERS);
     }
     unreachable!()
 }
 
 /// Waits for a while, whatever is acted.
 pub(crate) fn rest<M: Machine, R: Wait>(rt: &R, table: &HallTable<M>, time: Duration)
-    requires { table.now.table_id.words ≡ 3 }
+    requires { table.now.table_id.words ≡ 5 }
 {
     table.park_timeout(rt, REST, 0, time);
 }

@@ -21,7 +21,7 @@ pub struct View<E, O, M> {
     pub live: bool,
     /// It has the turn.
     pub holds: bool,
-    /// The machine at the start; none where the seat is not live.
+    /// The machine at the start; none if the seat is not live.
     pub start: Option<M>,
     /// Its name: empty for the seat of the start, or that of the seat that it was split from with
     /// one number more.

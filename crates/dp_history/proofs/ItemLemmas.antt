@@ -45,13 +45,13 @@ next-is operates present user o p operating found none next =
     let any = list_any-find (λ other. mark present other && operates other) user_ids in
     cc (any, operating, found, none, next)
 
--- none does, where the user was no operator
+-- none does, if the user was no operator
 pub next-no_operator : (operates : ℕ → Bool) (present : List Bool) (user : ℕ)
     → operates user ≡ false
     → None ≡ next_operator operates present user
 next-no_operator operates present user no_one = cc
 
--- none does, where an operator stays
+-- none does, if an operator stays
 pub next-operator_stays : (operates : ℕ → Bool) (present : List Bool) (user : ℕ) (o : Option ℕ)
     → operates user ≡ true
     → o ≡ find (λ other. mark present other && operates other) user_ids → is_some o ≡ true
@@ -260,7 +260,7 @@ pub some-unwrap : {X : Type 0} (o : Option X) (d : X) → is_some o ≡ true →
 some-unwrap None d some = cc
 some-unwrap (Some x) d some = refl
 
--- the user's last Join, where that is the Join by the event
+-- the user's last Join, if that is the Join by the event
 pub join-entries : (journal : List Event) (live : List Entry) (user event : ℕ)
     → is_some (join_of user (slice_get journal event)) ≡ true
     → last_join live user ≡ join_of user (slice_get journal event)

@@ -21,7 +21,7 @@ find-first p low (suc n) k above below passes fails =
     ap (λ b. cond b (Some low) (find p (range_with_len (low + 1) n))) (ap p e ∙ passes) ∙ ap Some e)
     (cases_lt low k)
 
--- none is found where none passes
+-- none is found if none passes
 pub find-none : (p : ℕ → Bool) (low n : ℕ) → ((j : ℕ) → low ≤ j → j < low + n → p j ≡ false)
     → find p (range_with_len low n) ≡ None
 find-none p low zero fails = refl
@@ -69,7 +69,7 @@ find-passes p low (suc n) k found =
     (omega (arith, h.0), h.1))
     (cases_Bool (p low))
 
--- some item passes exactly where one is found
+-- some item passes exactly if one is found
 pub list_any-find : {X : Type 0} (p : X → Bool) (xs : List X) → list_any p xs ≡ is_some (find p xs)
 list_any-find p [] = refl
 list_any-find p (x ∷ xs) =
@@ -102,7 +102,7 @@ pub find_user-first : (p : ℕ → Bool) (k : ℕ) → 1 ≤ k → k < 255 → p
 unfolding user_ids
 find_user-first p k above below passes fails = find-first p 1 254 k above (omega arith) passes fails
 
--- none is found where none passes
+-- none is found if none passes
 pub find_user-none : (p : ℕ → Bool) → ((j : ℕ) → 1 ≤ j → j < 255 → p j ≡ false)
     → find p user_ids ≡ None
 unfolding user_ids
@@ -172,7 +172,7 @@ listed-range p low (suc n) user above below =
         ∙ none (low + 1) n (omega (arith, same))
         ∙ sym is ∙ ap p same
 
--- an id of a user is among those that pass exactly where it passes
+-- an id of a user is among those that pass exactly if it passes
 pub lists-user : (p : ℕ → Bool) (user : ℕ) → 1 ≤ user → user ≤ 254
     → lists (filter p user_ids) user ≡ p user
 unfolding user_ids

@@ -23,11 +23,11 @@ AreJoined journal live present opens =
     (user : ℕ) → 1 ≤ user → user ≤ 254 → mark present user ≡ true
     → IsJoinedBy journal live user (slice_index_or opens user 0)
 
--- the user, who joins, as the first operator, where no one is marked
+-- the user, who joins, as the first operator, if no one is marked
 abbrev pub first_operator : List Bool → ℕ → Option ℕ
 first_operator present user = if list_any (mark present) user_ids then None else Some user
 
--- The user who becomes operator when another leaves, where these are marked who stay: the lowest of
+-- The user who becomes operator when another leaves, if these are marked who stay: the lowest of
 -- them, if the other was operator and none of them is.
 abbrev pub next_operator : (ℕ → Bool) → List Bool → ℕ → Option ℕ
 next_operator is_operator present user =

@@ -110,7 +110,7 @@ fn join(alloc: Global, journal: &[Event], event: u32, user: u8) -> Result<Entry,
     }
 }
 
-/// Whether an entry of this message goes on into the next epoch where a reset keeps it.
+/// Whether an entry of this message goes on into the next epoch if a reset keeps it.
 fn does_go_on(msg: &Msg) -> bool
     ensures { result ≡ goes_on msg.now }
 {
@@ -135,7 +135,7 @@ fn says_kept(journal: &[Event], event: u32) -> bool
     }
 }
 
-/// Whether the entry goes on into the next epoch where a reset keeps it.
+/// Whether the entry goes on into the next epoch if a reset keeps it.
 pub(crate) fn is_kept(journal: &[Event], item: &HistoryItem) -> bool
     requires { IsIn journal.now item.now }
     ensures { result ≡ goes_on (entry_in journal.now item.now).msg }
@@ -148,7 +148,7 @@ pub(crate) fn is_kept(journal: &[Event], item: &HistoryItem) -> bool
     }
 }
 
-/// How many of the entries go on into the next epoch where a reset keeps them.
+/// How many of the entries go on into the next epoch if a reset keeps them.
 pub fn count_kept(journal: &[Event], items: &[HistoryItem]) -> usize
     requires { All (IsIn journal.now) items.now }
     ensures { result
@@ -170,7 +170,7 @@ fn boxed_copy(alloc: Global, entry: &Entry) -> Result<Box<Entry>, AllocError>
     Ok(Box::new(alloc, entry.copy()?)?)
 }
 
-/// The item once more. A message is copied only where it is the server's own.
+/// The item once more. A message is copied only if it is the server's own.
 pub(crate) fn copy_of(alloc: Global, item: &HistoryItem) -> Result<HistoryItem, AllocError>
     ensures same { IfOk result (λ copy. (journal : List Kept)
         → entry_in journal copy ≡ entry_in journal item.now) }

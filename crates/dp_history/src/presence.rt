@@ -50,7 +50,7 @@ pub fn present_ids(alloc: Global, present: &[bool; 256]) -> Result<Ids, AllocErr
     Ok(Ids::from_vec(ids))
 }
 
-/// The user, who joins, as the first operator, where no one is present.
+/// The user, who joins, as the first operator, if no one is present.
 pub fn first_operator(present: &[bool; 256], user: u8) -> Option<u8>
     ensures { result ≡ first_operator present.now user }
 {

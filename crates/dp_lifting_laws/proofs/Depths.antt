@@ -90,7 +90,7 @@ depths-none (e ∷ es) h =
 depth-none : (history : List Entry) → SetsNone history → depth_of history ≡ None
 depth-none history h = ap (λ all. slice_get all (length all - 1)) (depths-none history h)
 
--- where no depth was set, none is carried
+-- if no depth was set, none is carried
 pub carried-first : (history : List Entry) (present : List ℕ) → SetsNone history
     → carried history present ≡ first_carried history present
 carried-first history present h =

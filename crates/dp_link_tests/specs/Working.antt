@@ -1,5 +1,6 @@
 -- What the work of seats leaves.
-use Rattle.std.specs.Prelude.{◌≡◌, ℕ, List}
+use Rattle.std.specs.Prelude.{◌≡◌, ℕ, Bool, true, false, List, Result, Ok, Err}
+use Rattle.std.specs.declared.alloc.AllocError.{AllocError}
 use Rattle.dp_hall.specs.declared.view.Entry.{Entry}
 use Rattle.dp_hall.specs.declared.view.View.{View}
 use Rattle.dp_hall.specs.Laws.{Continues, AllBackBut}
@@ -13,3 +14,8 @@ module _ {E O M : Type 0} where
   -- some acts of the seat alone
   abbrev pub Acted : View E O M → View E O M → Type 0
   Acted v w = (entries : List (Entry E O M)) × Continues v entries w
+
+-- an act that was not refused
+abbrev pub went : Result Bool AllocError → Bool
+went (Ok answer) = true
+went (Err error) = false

@@ -2,7 +2,7 @@
 
 use crate::pair::live_four;
 use crate::tally::{GATED, Gate, Tally};
-use crate::work::{ActLate, ActOnce, ActRefused, CountInside, WaitPast, live, live_both};
+use crate::work::{ActLate, ActOnce, ActRefused, ActThree, CountInside, WaitPast, live, live_both};
 use std::alloc::Global;
 use std::process::Abort;
 use std::sync::Arc;
@@ -70,5 +70,14 @@ fn a_refused_act_is_an_entry(rt: HostRuntime) {
     let mut act = ActRefused { rt: &rt };
     let (tally, answers) = live(rt.alloc(), tally, &mut act).expect(&rt, "memory");
     assert_eq!(rt; answers, (true, 1, true, Some(1)));
+    assert_eq!(rt; tally.marks.len(), 1);
+}
+
+#[test]
+fn a_turn_ends_at_a_refused_act(rt: HostRuntime) {
+    let tally = empty(&rt, rt.alloc());
+    let mut acts = ActThree { rt: &rt };
+    let (tally, answers) = live(rt.alloc(), tally, &mut acts).expect(&rt, "memory");
+    assert_eq!(rt; answers, (2, 1, true, 2));
     assert_eq!(rt; tally.marks.len(), 1);
 }

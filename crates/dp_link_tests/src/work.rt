@@ -4,10 +4,10 @@ ghost use Rattle.std.specs.Prelude.{◌≡◌, IfOk};
 ghost use Rattle.dp_hall.specs.Rule.{first_view};
 ghost use Rattle.dp_hall.specs.declared.view.View.{View as Known};
 ghost use Rattle.dp_hall.specs.Calls.{IsOf, SplitsInto, JoinsInto};
-ghost use Rattle.dp_link_tests.specs.Working.{Returns, Acted};
+ghost use Rattle.dp_link_tests.specs.Working.{Returns, Acted, went};
 
 use crate::tally::{GATED, Gate, Mark, REFUSED, Tally, is_raised};
-use dp_hall::{Hall, HallError, Seat, calls_add_up, seats_come_back};
+use dp_hall::{Hall, HallError, Listener, Seat, calls_add_up, seats_come_back};
 use std::alloc::{AllocError, Global};
 use std::sync::atomic::Ordering;
 use std::sync::{Arc, Wait};
@@ -245,5 +245,51 @@ impl<'a, R: Wait> Work for ActRefused<'a, R> {
         let taken = hall.act(self.rt, seat, &Mark { thread: 0, number });
         let marks = hall.ask(self.rt, seat, &());
         (refused.is_err(), count, taken.is_ok(), marks.ok())
+    }
+}
+
+/// Hears how many acts of a turn went, and stops at one that was refused.
+#[derive(Drop)]
+struct UntilRefused {
+    went: usize,
+}
+
+impl Listener<Tally> for UntilRefused {
+    ghost follows = { went };
+
+    fn hear(&mut self, outcome: &Result<bool, AllocError>) -> bool {
+        match outcome {
+            Ok(_) => {
+                self.went = self.went.saturating_add(1);
+                true
+            }
+            Err(_) => false,
+        }
+    }
+}
+
+/// Three acts in one turn, of which the second is refused. It gives how many were acted, how many
+/// of them went, whether it stopped, and the count.
+#[derive(Drop)]
+pub struct ActThree<'a, R> {
+    pub rt: &'a R,
+}
+
+impl<'a, R: Wait> Work for ActThree<'a, R> {
+    type Output = (usize, usize, bool, u64);
+
+    fn work(&mut self, hall: &Hall<Tally>, seat: &mut Seat<Tally>) -> (usize, usize, bool, u64) {
+        calls_add_up::<Mark, Result<bool, AllocError>, Tally>();
+        seats_come_back::<Mark, Result<bool, AllocError>, Tally>();
+        let (thread, number) = (0, REFUSED);
+        let marks = [
+            Mark { thread, number: 0 },
+            Mark { thread, number },
+            Mark { thread, number: 1 },
+        ];
+        let mut listener = UntilRefused { went: 0 };
+        let acted = hall.act_each(self.rt, seat, &marks, &mut listener);
+        let stopped = acted.stop.is_some();
+        (acted.count, listener.went, stopped, hall.count(seat))
     }
 }

@@ -4,14 +4,16 @@ ghost use Rattle.std.specs.Prelude.{◌≡◌, ◌<◌};
 
 use dp_blend::Pixel;
 use dp_board::Board;
-use dp_canvas::{Canvas, DeferredBoard};
+use dp_canvas::{Canvas, DeferredBoard, Workers};
 use dp_msg_draw::{Draw, is_listed, read_draw};
 use dp_plain::{BoardView, PlainBoard};
 use dp_steps::Steps;
+use dp_wire::OpenGate;
 use std::alloc::Global;
 use std::marker::Brand;
 use std::process::Abort;
 use std::sync::ledger::{Blank, Ledger};
+use std::thread::Threads;
 
 /// Commands, each a kind and its payload, and what they make of the empty board: its sides, its
 /// background, each row's id and parent, and pixels of layers, each at a place.
@@ -150,6 +152,27 @@ fn draws<B: Board<Op = Draw> + BoardView, D: Ledger, T: Ledger>(
     }
     let shared = board.share(draws, tiles).expect(rt, "memory");
     looks_so(rt, &shared, case);
+}
+
+/// Draws the commands of a case on a canvas as one batch, by so many workers, and looks at it.
+fn draws_batch<R: Threads + Sync + Abort, D: Ledger, T: Ledger>(
+    rt: &R,
+    alloc: Global,
+    count: u32,
+    case: &Case,
+    draws: &mut Steps<D>,
+    tiles: &mut Steps<T>,
+) {
+    let mut batch = Vec::new(alloc);
+    for bytes in case.commands {
+        batch.push(command(rt, alloc, bytes)).expect(rt, "memory");
+    }
+    let gate = &OpenGate;
+    let mut canvas = Canvas::new(alloc);
+    canvas
+        .draw_batch(rt, &batch, &Workers { count, gate }, draws, tiles)
+        .expect(rt, "memory");
+    looks_so(rt, &canvas, case);
 }
 
 /// The board looks as the case says.
@@ -484,9 +507,10 @@ static PAIRS: [(&[u8], &[u8], bool); 10] = [
     ),
 ];
 
-/// Draws the cases on each kind of board, with counters over these blanks.
-fn on_all_boards<D: Ledger, T: Ledger>(
-    rt: &impl Abort,
+/// Draws the cases on each kind of board, and on a canvas in batches, with counters over these
+/// blanks.
+fn on_all_boards<R: Threads + Sync + Abort, D: Ledger, T: Ledger>(
+    rt: &R,
     alloc: Global,
     draw_blank: Blank,
     tile_blank: Blank,
@@ -505,12 +529,14 @@ fn on_all_boards<D: Ledger, T: Ledger>(
         draws(rt, alloc, canvas, case, &mut drawn, &mut made);
         let deferred = DeferredBoard::new(alloc);
         draws(rt, alloc, deferred, case, &mut drawn, &mut made);
+        draws_batch(rt, alloc, 1, case, &mut drawn, &mut made);
+        draws_batch(rt, alloc, 7, case, &mut drawn, &mut made);
     }
 }
 
 #[test]
 fn commands_on_all_boards(rt: HostRuntime) {
-    on_all_boards::<Brand, Brand>(&rt, rt.alloc(), Blank::new(1), Blank::new(1));
+    on_all_boards::<HostRuntime, Brand, Brand>(&rt, rt.alloc(), Blank::new(1), Blank::new(1));
 }
 
 #[test]

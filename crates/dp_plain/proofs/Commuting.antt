@@ -1,5 +1,5 @@
 -- Commands whose feet don't meet, on a board.
-use Rattle.std.proofs.Common.{◌≡◌, ◌==◌, ℕ, ◌≤◌, Bool, true, false, not, cond, List, [], ◌∷◌, map}
+use Rattle.std.proofs.Common.{◌≡◌, ◌==◌, ℕ, ◌≤◌, Bool, true, false, not, List, [], ◌∷◌, map}
 use Rattle.std.proofs.Common.{Option, None, Some, refl, ap, sym, ◌∙◌, ◌⊎◌, inl, inr, ⊎_elim}
 use Rattle.std.specs.Prelude.{option_map}
 use Rattle.std.proofs.lemmas.Bool.{cases_Bool, cond-true, cond-false, cond_both, eqb-true}
@@ -26,12 +26,12 @@ CommutingLaw = (width height : ℕ) (a b : Draw) (pixels : List Channels)
 -- ---- a row
 
 module _ (id : ℕ) (f : List Channels → List Channels) (row : Row (List Channels)) where
-  changed : (row.layer.id == id) ≡ true
+  pub changed : (row.layer.id == id) ≡ true
       → with_change id f row ≡ record row { content = option_map f row.content }
   changed here = cond-true (row.layer.id == id)
       (record row { content = option_map f row.content }) row here
 
-  unchanged : (row.layer.id == id) ≡ false → with_change id f row ≡ row
+  pub unchanged : (row.layer.id == id) ≡ false → with_change id f row ≡ row
   unchanged out = cond-false (row.layer.id == id)
       (record row { content = option_map f row.content }) row out
 

@@ -7,3 +7,4 @@ pub mod Remaking
 pub mod Holds
 pub mod Pixels
 pub mod Commuting
+pub mod Runs

@@ -12,7 +12,7 @@ use Rattle.dp_pixels.specs.declared.resize.Resize.{Resize}
 use Rattle.dp_pixels.specs.Resizes.{IsResizeOf, is_side, side, pixels_resized, pixels_shifted}
 use Rattle.dp_plain.specs.Commands.{resized}
 
--- the length of a side, where the whole number is one
+-- the length of a side, if the whole number is one
 abbrev pub side_if : ℤ → Option ℕ
 side_if n = cond (is_side n) (Some (side n)) None
 

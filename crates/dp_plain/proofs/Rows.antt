@@ -5,6 +5,7 @@ use Rattle.std.proofs.Common.{get_or, Option, None, Some, refl, ap, sym, ◌∙�
 use Rattle.std.specs.Prelude.{is_some, option_map, All}
 use Rattle.std.specs.List.{IsDistinct, cons_option}
 use Rattle.std.proofs.lemmas.Bool.{cond_both, cases_Bool, eqb-true}
+use Rattle.std.proofs.lemmas.Option.{none-some}
 use Rattle.std.proofs.lemmas.List.{length-map, get_or-map}
 use Rattle.std.proofs.lemmas.List.Elements.{All-nil, All-cons, All-head, All-tail, All-map}
 use Rattle.std.proofs.lemmas.List.Elements.{All-from_recursion}
@@ -114,7 +115,7 @@ content_itself {X} (row ∷ rows) distinct =
     (others k d.layer.id (subst (λ n. k < n) (sym count) in_list)) in
     rw away (rest k d in_list))
 
--- where the row of an id holds x, so does each row of the id
+-- if the row of an id holds x, so does each row of the id
 held_at : {X : Type 0} (rows : List (Row X)) (id : ℕ) (o : Option X) → HaveIds rows
     → content_of rows id ≡ o
     → All (λ row. (row.layer.id == id) ≡ true → row.content ≡ o) rows
@@ -157,6 +158,32 @@ filled_same {X} rows id x distinct found =
         (λ (q : Row X). q ≡ row)
         (λ here. ap (λ (o : Option X). record row { content = o }) (sym (held here))) (λ _. refl)
 
+-- x is found if it was put
+pub filled_found : {X : Type 0} (rows : List (Row X)) (id : ℕ) (old x : X)
+    → content_of rows id ≡ Some old → content_of (with_content rows id x) id ≡ Some x
+filled_found [] id old x found = absurd (none-some old found)
+filled_found {X} (row ∷ rows) id old x found =
+    ⊎_elim (λ (here : (row.layer.id == id) ≡ true). rw (here, here) refl)
+    (λ (missed : (row.layer.id == id) ≡ false).
+    rw (missed, missed) (filled_found rows id old x (rw missed at found)))
+    (cases_Bool (row.layer.id == id))
+
+-- what the row held is put back
+pub filled_back : {X : Type 0} (rows : List (Row X)) (id : ℕ) (old x : X) → HaveIds rows
+    → content_of rows id ≡ Some old
+    → with_content (with_content rows id x) id old ≡ rows
+filled_back {X} rows id old x distinct found =
+    map-map (fill_row id old) (fill_row id x) rows
+    ∙ map-each (λ row. fill_row id old (fill_row id x row)) (fill_row id old) rows
+    (λ k d in_list. one (get_or rows k d))
+    ∙ filled_same rows id old distinct found
+  where
+    one : (row : Row X) → fill_row id old (fill_row id x row) ≡ fill_row id old row
+    one row =
+        ⊎_elim (λ (here : (row.layer.id == id) ≡ true). rw (here, here) refl)
+        (λ (missed : (row.layer.id == id) ≡ false). rw (missed, missed) refl)
+        (cases_Bool (row.layer.id == id))
+
 -- ---- a change of the pixels in the row of an id
 
 module _ (id : ℕ) (change : List Channels → List Channels) where
@@ -176,7 +203,7 @@ module _ (id : ℕ) (change : List Channels → List Channels) where
       → IsTree (map (with_change id change) rows)
   tree_changed rows tree = tree_mapped (with_change id change) change-layer change-kind rows tree
 
-  -- where no paint row has the id, no row changes
+  -- if no paint row has the id, no row changes
   pub changed_none : (rows : List (Row (List Channels))) → HaveIds rows → content_of rows id ≡ None
       → map (with_change id change) rows ≡ rows
   changed_none rows distinct none =

@@ -1,8 +1,8 @@
 -- What is read of a board whose contents are seen as their pixels.
 use Rattle.std.proofs.Common.{◌≡◌, ℕ, ◌<◌, Bool, true, false, cond, List, [], map, Option}
-use Rattle.std.proofs.Common.{None, Some, refl, ap, sym, subst, ◌∙◌}
+use Rattle.std.proofs.Common.{Bor, None, Some, refl, ap, sym, subst, ◌∙◌}
 use Rattle.std.proofs.Common.{Ok, Err}
-use Rattle.std.specs.Prelude.{unwrap_or, option_map, nat_lt, ◌&&◌, Result, OnErr}
+use Rattle.std.specs.Prelude.{unwrap_or, option_copied, option_map, is_some, nat_lt, ◌&&◌, Result, OnErr}
 use Rattle.std.proofs.lemmas.Bool.{lt-ltb}
 use Rattle.dp_blend.specs.Color.{Channels}
 use Rattle.dp_blend.specs.Canvas.{pixel_at}
@@ -16,6 +16,7 @@ use Rattle.dp_plain.specs.Board.{Board}
 use Rattle.dp_plain.specs.Commands.{arranged, with_change}
 use Rattle.dp_plain.specs.View.{pixel_in}
 use Rattle.dp_plain.proofs.Rows.{HaveIds, layers_of-map, content_of-mapped, tree_of_contents}
+use Rattle.dp_plain.proofs.Rows.{some_mapped}
 use Rattle.dp_plain.proofs.Rows.{filled-mapped, changed_none, changed_some}
 
 module _ {C : Type 0} (pixels : C → List Channels) (rows : List (Row C)) where
@@ -71,7 +72,24 @@ module _ {C : Type 0} (pixels : C → List Channels) (rows : List (Row C)) (tree
       (changed_some id change (map_contents pixels rows) (pixels old) ids
       (content_seen pixels rows id (Some old) found))
 
--- what holds, holds where an error comes
+-- a paint row of what is seen is one of what is there
+pub paint_seen : {C : Type 0} (pixels : C → List Channels) (rows : List (Row C)) (id : ℕ)
+    (lent : Option (Bor C)) → option_copied lent ≡ content_of rows id
+    → is_some lent ≡ is_paint_row (layers_of rows) id
+    → is_some (content_of (map_contents pixels rows) id) ≡ true
+    → is_paint_row (layers_of rows) id ≡ true
+paint_seen {C} pixels rows id lent same kind present =
+    sym kind ∙ copied lent
+    ∙ ap (λ (o : Option C). is_some o) same
+    ∙ sym (some_mapped pixels (content_of rows id))
+    ∙ ap (λ (o : Option (List Channels)). is_some o) (sym (content_of-mapped pixels rows id))
+    ∙ present
+  where
+    copied : (o : Option (Bor C)) → is_some o ≡ is_some (option_copied o)
+    copied None = refl
+    copied (Some x) = refl
+
+-- what holds, holds if an error comes
 pub at_error : {T E P : Type 0} (r : Result T E) → P → OnErr r P
 at_error (Ok x) holds = tt
 at_error (Err e) holds = holds

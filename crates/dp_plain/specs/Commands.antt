@@ -21,7 +21,7 @@ abbrev pub with_sides : Board → ℕ → ℕ → (List Channels → List Channe
 with_sides board width height change =
     record board { width = width; height = height; rows = map_contents change board.rows }
 
--- CanvasResize: the canvas with the new sides, where both are sides
+-- CanvasResize: the canvas with the new sides, if both are sides
 abbrev pub resized : Board → ℤ → ℤ → ℤ → ℤ → Board
 resized board top right bottom left =
     let width = pos board.width +ℤ left +ℤ right in
@@ -40,7 +40,7 @@ new_content board op =
 abbrev pub arranged : Board → Draw → Board
 arranged board op = record board { rows = rows_after board.rows op (new_content board op) }
 
--- the row, with what change makes of its pixels where it has the id; a group has none
+-- the row, with what change makes of its pixels if it has the id; a group has none
 abbrev pub with_change : ℕ → (List Channels → List Channels)
     → Row (List Channels) → Row (List Channels)
 with_change id change row =

@@ -20,6 +20,15 @@ pub fn known_colors(command: &Draw)
     }
 }
 
+/// The same of several commands.
+pub fn known_commands(commands: &[Draw])
+    ensures { All FitsColors commands.now }
+{
+    for command in commands {
+        known_colors(command);
+    }
+}
+
 fn known_number(color: u32)
     ensures { color < 2 ^ 32 }
 {}

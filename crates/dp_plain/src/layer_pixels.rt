@@ -98,7 +98,7 @@ pub trait LayerPixels: Share + Drop {
         ensures { part.new
             ≡ part_of_row width (pixels width height self.now) x y (length part.old) };
 
-    /// The colour of the tile at a column and a row of tiles, where it is of one and that is known
+    /// The colour of the tile at a column and a row of tiles, if it is of one and that is known
     /// without reading it.
     fn tile_color(&self, width: u32, height: u32, col: u32, row: u32) -> Option<Pixel>
         requires fits { fits width height self.now }
@@ -107,7 +107,7 @@ pub trait LayerPixels: Share + Drop {
         ensures { IfSome result (λ color.
             ShowsTile width height (pixels width height self.now) col row (Some color) []) };
 
-    /// Reads the tile at a column and a row of tiles: gives its colour, where it is known to be of
+    /// Reads the tile at a column and a row of tiles: gives its colour, if it is known to be of
     /// one, and else leaves its pixels in the buffer, row by row. Past the canvas it may hold
     /// anything.
     fn tile(

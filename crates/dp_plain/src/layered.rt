@@ -1,9 +1,9 @@
 //! The board over contents of any kind: the dispatch of the commands.
 
 ghost use Rattle.std.specs.Prelude.{◌≡◌, ◌+◌, ◌*◌, ◌≤◌, pos, ◌+ℤ◌, ◌&&◌, true, Some};
-ghost use Rattle.std.specs.Prelude.{option_copied, option_map, IfSome, OnOk, OnErr};
+ghost use Rattle.std.specs.Prelude.{option_copied, option_map, is_some, IfSome, OnOk, OnErr};
 ghost use Rattle.dp_layers.specs.Layers.{is_paint_row, row_limit};
-ghost use Rattle.dp_layers.specs.Rows.{content_of, layers_of};
+ghost use Rattle.dp_layers.specs.Rows.{content_of, layers_of, with_content};
 ghost use Rattle.dp_layers.specs.Changes.{IsCreate, has_effect};
 ghost use Rattle.dp_pixels.specs.Feet.{are_apart};
 ghost use Rattle.dp_pixels.specs.Resizes.{is_side};
@@ -68,7 +68,7 @@ impl<C: LayerPixels> LayeredBoard<C> {
         }
     }
 
-    /// What the paint layer of the id holds, or `None` where no paint layer has the id.
+    /// What the paint layer of the id holds, or `None` if no paint layer has the id.
     pub fn content(&self, id: u16) -> Option<&C>
         ensures pixels { option_map (C.pixels self.now.width self.now.height)
             (option_copied result) ≡ content_of self.now.rows id }
@@ -77,6 +77,25 @@ impl<C: LayerPixels> LayeredBoard<C> {
     {
         contents_ride_along::<C, PlainPixels>();
         self.tree.content(id)
+    }
+
+    /// Puts a content in the place of what the paint layer of the id holds, and gives that back. A
+    /// paint layer has the id, and the content belongs to the canvas.
+    pub fn put_content(&mut self, id: u16, content: C) -> C
+        requires present { is_some (content_of self.old.rows id) ≡ true }
+        requires fits { C.fits self.old.width self.old.height content }
+        ensures old { content_of self.old.rows id
+            ≡ Some (C.pixels self.old.width self.old.height result) }
+        ensures old_fits { C.fits self.old.width self.old.height result }
+        ensures new { self.new ≡ record self.old {
+          rows = with_content self.old.rows id
+              (C.pixels self.old.width self.old.height content);
+        } }
+    {
+        contents_ride_along::<C, PlainPixels>();
+        trees_stay_trees::<C>();
+        let _ = self.tree.content(id);
+        self.tree.put_content(id, content)
     }
 
     /// Draws the command, as `draw` of the trait does, without counting a draw.
@@ -112,7 +131,7 @@ impl<C: LayerPixels> LayeredBoard<C> {
         }
     }
 
-    /// Gives the canvas its new sides, where both are sides.
+    /// Gives the canvas its new sides, if both are sides.
     fn resize<T: Ledger>(
         &mut self,
         top: i32,

@@ -14,8 +14,8 @@ mod resize;
 mod trees;
 mod view;
 
-pub use colors::known_colors;
-pub use laws::spelled_commands_keep_pixels;
+pub use colors::{known_colors, known_commands};
+pub use laws::{runs_change_one_layer, spelled_commands_keep_pixels};
 pub use layer_pixels::LayerPixels;
 pub use layered::LayeredBoard;
 pub use plain::{PlainBoard, PlainPixels};

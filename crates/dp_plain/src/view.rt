@@ -58,7 +58,7 @@ pub trait BoardView {
             (pixels_of (board self.now) id) col row (Some color) []) };
 
     /// Reads the tile at a column and a row of tiles, of the paint layer of the id: gives its
-    /// colour, where it is known to be of one, and else leaves its pixels in the buffer, row by
+    /// colour, if it is known to be of one, and else leaves its pixels in the buffer, row by
     /// row. Past the canvas it may hold anything.
     fn tile(&self, id: u16, col: u32, row: u32, buffer: &mut [Pixel]) -> Option<Pixel>
         requires paint { IsTrue (is_paint_row (layers_of (board self.now).rows) id) }
@@ -68,7 +68,7 @@ pub trait BoardView {
         ensures { ShowsTile (board self.now).width (board self.now).height
             (pixels_of (board self.now) id) col row result buffer.new };
 
-    /// The pixel of the paint layer of the id at a place, or `None` where no paint layer has the id
+    /// The pixel of the paint layer of the id at a place, or `None` if no paint layer has the id
     /// or the place is outside.
     fn pixel(&self, id: u16, x: u32, y: u32) -> Option<Pixel>
         ensures { result ≡ pixel_in (board self.now) id x y };

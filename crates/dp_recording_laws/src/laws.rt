@@ -19,7 +19,7 @@ use dp_messages::{entries_are_read_again, lifting, one_message};
 use dp_recording::the_header_is_one;
 
 /// A recording that was written is read again, entry by entry, to its end: of entries whose
-/// messages have a spelling, and where it has no more bytes than count.
+/// messages have a spelling, and if it has no more bytes than count.
 pub fn recordings_are_read_again()
     ensures { (entries : List Entry) → AllByRecursion (λ e. HasSpelling e.msg) entries
         → length (recording entries) ≤ stream_limit

@@ -6,7 +6,7 @@ use Rattle.dp_msg_draw.specs.declared.draw.Draw.TheVariants.{CanvasResize}
 use Rattle.dp_board.specs.Counts.{CountsFew}
 use Rattle.dp_plain.specs.Weights.{board_weight}
 
--- where nothing weighs, no tile is made
+-- if nothing weighs, no tile is made
 pub no_tiles : (weight : Draw → ℕ) (commands : List Draw) (draws new_draws tiles new_tiles : ℕ)
     → ((command : Draw) → weight command ≡ 0)
     → CountsFew weight commands draws new_draws tiles new_tiles → new_tiles ≡ tiles

@@ -16,7 +16,7 @@ use Rattle.dp_board.specs.Replay as strokes
 use Rattle.dp_plain.specs.Board.{Board, empty_board}
 use Rattle.dp_plain.specs.Commands.{draw}
 
--- the user whose group an undo or a redo moves: the target, or the sender where it is 0
+-- the user whose group an undo or a redo moves: the target, or the sender if it is 0
 abbrev pub moved_user : ℕ → ℕ → ℕ
 moved_user sender target = if target == 0 then sender else target
 
@@ -70,7 +70,7 @@ abbrev pub is_mark : Entry → Bool
 is_mark entry = is_reset_mark entry.msg
 
 -- what a history shows on a board of any kind: the replay of its entries after the last mark, of
--- all where there is none
+-- all if there is none
 abbrev pub shown_on : {B : Type 0} → (B → Draw → B) → B → List Entry → B
 shown_on draw blank entries = replay_on draw blank (after_last is_mark entries)
 

@@ -139,7 +139,7 @@ pub fn show_on<B: Board<Op = Draw>, D: Ledger, T: Ledger>(
     replay_on(alloc, blank, &entries[epoch_start(entries)..], draws, tiles)
 }
 
-/// The place of the first entry after the last mark of a reset, 0 where there is none.
+/// The place of the first entry after the last mark of a reset, 0 if there is none.
 fn epoch_start(entries: &[Entry]) -> usize
     ensures within { result ≤ length entries.now }
     ensures after { drop result entries.now ≡ after_last is_mark entries.now }

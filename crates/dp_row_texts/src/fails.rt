@@ -9,6 +9,10 @@ pub enum Object {
     Dial,
     Receive,
     Send,
+    /// Of the store: a call that reads rows.
+    Rows,
+    /// Of the store: a call that puts a row, which is lost.
+    Put,
 }
 
 impl Object {
@@ -21,6 +25,8 @@ impl Object {
             "dial" => Some(Object::Dial),
             "receive" => Some(Object::Receive),
             "send" => Some(Object::Send),
+            "rows" => Some(Object::Rows),
+            "put" => Some(Object::Put),
             _ => None,
         }
     }
@@ -34,6 +40,8 @@ impl Object {
             Object::Dial => "dial",
             Object::Receive => "receive",
             Object::Send => "send",
+            Object::Rows => "rows",
+            Object::Put => "put",
         }
     }
 }

@@ -41,10 +41,10 @@ pub fn put_answer(answer: &Answer, out: &mut Vec<u8>) -> Result<(), AllocError> 
         None => put_text(b"", &answer.output, out)?,
     }
     put_text(b"! ", &answer.said, out)?;
-    match answer.sent.split_first() {
-        Some((_, lines)) => put_parts(&[lines, b"\n"], out),
-        None => Ok(()),
+    if let Some((_, lines)) = answer.sent.split_first() {
+        put_parts(&[lines, b"\n"], out)?;
     }
+    put_parts(&[&answer.left], out)
 }
 
 /// Adds a text after this, and what says that it has no newline at its end.

@@ -1,8 +1,10 @@
 //! Rows of a text.
 
 use crate::fails::{Fail, Object};
+use crate::links::put_link;
 use crate::names::{Names, put_line, read_word};
 use crate::row::{Part, Row};
+use crate::tables::{Table, put_frames, put_table_line};
 use std::alloc::{AllocError, Global};
 
 /// What a text has.
@@ -74,6 +76,8 @@ fn read_head(alloc: Global, head: &str) -> Result<Option<Row>, AllocError> {
         each: Vec::new(alloc),
         input: Vec::new(alloc),
         wires: Vec::new(alloc),
+        kept: Vec::new(alloc),
+        table: Table::new(alloc),
     };
     for word in head.split_whitespace() {
         if !read_head_word(alloc, &mut row, word)? {
@@ -134,7 +138,7 @@ fn put_fails(
 }
 
 /// Adds the numbers of a list such as `1,5-9`, and answers whether it is one.
-fn put_numbers(value: &str, out: &mut Vec<u64>) -> Result<bool, AllocError> {
+pub fn put_numbers(value: &str, out: &mut Vec<u64>) -> Result<bool, AllocError> {
     for item in value.split(',') {
         let (first, last) = item.split_once('-').unwrap_or((item, item));
         let first = first.parse::<u64>().unwrap_or(0);
@@ -164,6 +168,8 @@ fn read_row_line(
         Some(("x", words)) => put_words(alloc, names, words, &mut row.input),
         Some(("link", words)) => put_link(alloc, names, words, &mut row.wires),
         Some(("repeat", rest)) => put_repeated(alloc, names, rest, &mut row.input),
+        Some(("kept", words)) => put_frames(alloc, names, words, &mut row.kept),
+        Some(("table", rest)) => put_table_line(alloc, names, &mut row.table, rest),
         _ => {
             let mut bytes = Vec::new(alloc);
             put_line(names, line.strip_prefix('|').unwrap_or(line), &mut bytes)?;
@@ -200,32 +206,6 @@ fn put_words(
         }
     }
     Ok(true)
-}
-
-/// Adds a link of these bytes to the last wire, and answers whether they are such.
-fn put_link(
-    alloc: Global,
-    names: &Names<'_>,
-    words: &str,
-    wires: &mut Vec<Vec<Vec<u8>>>,
-) -> Result<bool, AllocError> {
-    let mut parts = Vec::new(alloc);
-    if !put_words(alloc, names, words, &mut parts)? {
-        return Ok(false);
-    }
-    let mut bytes = Vec::new(alloc);
-    for part in &parts {
-        for _ in 0..part.times {
-            bytes.extend_from_slice(&part.bytes)?;
-        }
-    }
-    match wires.last_mut() {
-        Some(links) => {
-            links.push(bytes)?;
-            Ok(true)
-        }
-        None => Ok(false),
-    }
 }
 
 /// Adds lines that stand there so often, and answers whether there is a number.

@@ -1,6 +1,8 @@
 //! A row.
 
 use crate::fails::{Fail, Object};
+use crate::links::Coming;
+use crate::tables::Table;
 
 /// Bytes that stand in an input so often.
 #[derive(Drop)]
@@ -23,6 +25,10 @@ pub struct Row {
     /// The objects of which each call is to fail in turn.
     pub each: Vec<Object>,
     pub input: Vec<Part>,
-    /// The bytes of each wire's links.
-    pub wires: Vec<Vec<Vec<u8>>>,
+    /// The links of each wire.
+    pub wires: Vec<Vec<Coming>>,
+    /// The bytes of the rows that the store has.
+    pub kept: Vec<Vec<u8>>,
+    /// What damaged links are to give.
+    pub table: Table,
 }

@@ -19,10 +19,24 @@ pub fn put_each<R: Threads + Wait + Sync>(
     out: &mut Vec<u8>,
 ) -> Result<(), AllocError> {
     let name = object.name().as_bytes();
-    let first = answer_to(rt, alloc, row, piece, Some(Fail { object, call: 1 }))?;
+    let first = answer_to(
+        rt,
+        alloc,
+        row,
+        &row.wires,
+        piece,
+        Some(Fail { object, call: 1 }),
+    )?;
     let mut made = 0;
     for call in 1..1_000_000u64 {
-        let answer = answer_to(rt, alloc, row, piece, Some(Fail { object, call }))?;
+        let answer = answer_to(
+            rt,
+            alloc,
+            row,
+            &row.wires,
+            piece,
+            Some(Fail { object, call }),
+        )?;
         if answer.same(whole) {
             break;
         }

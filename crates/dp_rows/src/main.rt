@@ -7,24 +7,40 @@
 //! - `> WORDS ..`: begins a row of the program's words. A word may also be an option of the row:
 //!   `pieces=1,5-9` gives the lengths of the pieces in which it reads and writes (else `1,7,4096`),
 //!   `room=N` how much the output takes; `input=2,7`, `output=..`, `diag=..`, `dial=..`,
-//!   `receive=..` and `send=..` have the calls with these numbers fail, counted from 1; `each=send`
-//!   runs the row again with each call of that object failing in turn.
+//!   `receive=..`, `send=..`, `rows=..` and `put=..` have the calls with these numbers fail,
+//!   counted from 1; `each=send` runs the row again with each call of that object failing in turn.
 //! - `x WORDS`: bytes of the row's input, in words of hexadecimal, and `N*WORD` as above.
-//! - `link WORDS`: the bytes of a link to come. `wire` begins a further wire.
+//! - `wire` begins a further wire, and `link WORDS` has the bytes of a link to come. Among its
+//!   words `read=3` and `write=..` have these calls on that link fail. `@1:40` is a pause: the
+//!   bytes after it come once link 1, counted from 0 over all wires, was sent 40 bytes.
+//! - `kept WORDS`: the rows of the store, a word each.
 //! - `repeat N LINE ; LINE`: these lines of the row's input, N times.
+//! - `table ..`: what is tried with the first link, and what is due then. `lies WORDS` are frames
+//!   that carry no message, `ends WORDS` such as end a link, and `instead WORDS` a painter's
+//!   frames, each with what is placed for it. `writes N` has as many writes fail in turn. Of
+//!   `join`, `table 4 LINE` is printed after 4 frames, and `table 4 x WORD` sent. Of `serve`,
+//!   `placed WORDS` has what is placed for each frame of a link and for its end, `-` for nothing.
 //! - Another line is one of the row's input. `|LINE` is one that would be read as something else.
 //!
 //! For each row it prints its first line, the status, the output, the line on diag after `! `, and
-//! what was sent on each link after `sent `. A picture of bytes is printed as its head and its
-//! pixels, each with how often it stands there. A backslash ends a text that has no newline at its
-//! end. What a length of pieces gives otherwise than the first one follows after `differs`.
+//! what was sent on each link after `sent `. Of a server it prints a line for each link, each row
+//! of the store after `kept `, and how often its workers passed the gate. A picture of bytes is
+//! printed as its head and its pixels, each with how often it stands there. A backslash ends a text
+//! that has no newline at its end. What a length of pieces gives otherwise than the first one
+//! follows after `differs`. Where there is a table, the row runs again with the first link cut
+//! after each byte, with each of its frames replaced, and with each of its reads and writes
+//! failing. Where two wires have a link each, the second link is open before the damaged one begins
+//! and until that is over. `tried` says how many runs there were, and `differs` where one gave
+//! something else than is due.
 #![tactic(auto)]
 
 mod each;
 mod running;
+mod tried;
 
 use crate::each::put_each;
 use crate::running::answer_to;
+use crate::tried::put_tried;
 use dp_io::{StdSink, put_all};
 use dp_row_texts::{Row, Rows, put_answer, put_bad_row, put_numbered, put_parts, read_rows};
 use std::alloc::{AllocError, Global};
@@ -77,11 +93,11 @@ fn put_row<R: Threads + Wait + Sync>(
     out: &mut Vec<u8>,
 ) -> Result<(), AllocError> {
     let first = row.pieces.first().copied().unwrap_or(1);
-    let answer = answer_to(rt, alloc, row, first, None)?;
+    let answer = answer_to(rt, alloc, row, &row.wires, first, None)?;
     put_parts(&[b"> ", row.head.as_bytes(), b"\n"], out)?;
     put_answer(&answer, out)?;
     for piece in row.pieces.iter().skip(1) {
-        let again = answer_to(rt, alloc, row, *piece, None)?;
+        let again = answer_to(rt, alloc, row, &row.wires, *piece, None)?;
         if !again.same(&answer) {
             put_numbered(b"differs in pieces of ", *piece, b"\n", out)?;
             put_answer(&again, out)?;
@@ -90,5 +106,5 @@ fn put_row<R: Threads + Wait + Sync>(
     for object in &row.each {
         put_each(rt, alloc, row, first, *object, &answer, out)?;
     }
-    Ok(())
+    put_tried(rt, alloc, row, out)
 }

@@ -1,25 +1,33 @@
 //! Runs of rows over memory.
 
-ghost use Rattle.std.specs.Prelude.{◌≤◌};
-
-use dp_app_runs::outcome_of;
-use dp_io::{MemSink, MemSource};
-use dp_lines::put_hex;
-use dp_row_texts::{Answer, Fail, Object, Row, RowSource};
-use dp_wire::MemWire;
+use dp_app::Outcome;
+use dp_app_runs::outcome_over;
+use dp_io::MemSink;
+use dp_keeper::MemKeeper;
+use dp_row_texts::{
+    Answer, Coming, Fail, LinkFails, Object, Row, RowGate, RowSource, RowWire, RowWires, Told,
+    keeper_of, put_kept, put_parts, put_passes, put_told, sent_on, wires_of,
+};
 use std::alloc::{AllocError, Global};
 use std::sync::Wait;
 use std::thread::Threads;
 
-/// Runs a row in pieces of this length, with one more call that fails.
+/// Runs a row over these links in pieces of this length, with one more call that fails.
 pub fn answer_to<R: Threads + Wait + Sync>(
     rt: &R,
     alloc: Global,
     row: &Row,
+    links: &[Vec<Coming>],
     piece: u64,
     more: Option<Fail>,
 ) -> Result<Answer, AllocError> {
     let piece = (piece as usize).max(1);
+    let fails = LinkFails {
+        dials: calls_of(alloc, row, Object::Dial, more)?,
+        reads: calls_of(alloc, row, Object::Receive, more)?,
+        writes: calls_of(alloc, row, Object::Send, more)?,
+    };
+    let RowWires { wires, sent } = wires_of(alloc, links, piece, &fails)?;
     let mut input = RowSource::new(
         &row.input,
         piece,
@@ -37,8 +45,8 @@ pub fn answer_to<R: Threads + Wait + Sync>(
         piece,
         calls_of(alloc, row, Object::Diag, more)?,
     )?;
-    let wires = wires_of(alloc, row, piece, more)?;
-    let outcome = outcome_of(
+    let gate = RowGate::new();
+    let outcome = outcome_over(
         rt,
         alloc,
         &row.words,
@@ -46,12 +54,15 @@ pub fn answer_to<R: Threads + Wait + Sync>(
         &mut output,
         &mut diag,
         wires,
+        store_of(alloc, row, more)?,
+        &gate,
     );
     Ok(Answer {
         status: outcome.status,
         output: Vec::from_slice(alloc, output.as_slice())?,
         said: Vec::from_slice(alloc, diag.as_slice())?,
         sent: sent_on(alloc, &outcome.wires)?,
+        left: left_by(alloc, &outcome, gate.passes(), sent.gave_up())?,
     })
 }
 
@@ -71,38 +82,38 @@ fn calls_of(
     Ok(calls)
 }
 
-/// The wires of a row.
-fn wires_of(
-    alloc: Global,
-    row: &Row,
-    piece: usize,
-    more: Option<Fail>,
-) -> Result<Vec<MemWire>, AllocError>
-    requires { 1 ≤ piece }
-{
-    let mut wires = Vec::new(alloc);
-    for links in &row.wires {
-        let mut pairs = Vec::new(alloc);
-        for bytes in links {
-            let receives = calls_of(alloc, row, Object::Receive, more)?;
-            let sends = calls_of(alloc, row, Object::Send, more)?;
-            let rx = MemSource::new(Vec::from_slice(alloc, bytes)?, piece, receives);
-            pairs.push((rx, MemSink::new(alloc, 20_000, piece, sends)?))?;
-        }
-        let dials = calls_of(alloc, row, Object::Dial, more)?;
-        wires.push(MemWire::new(pairs, dials))?;
-    }
-    Ok(wires)
+/// The store of a row.
+fn store_of(alloc: Global, row: &Row, more: Option<Fail>) -> Result<MemKeeper, AllocError> {
+    let reads = calls_of(alloc, row, Object::Rows, more)?;
+    let puts = calls_of(alloc, row, Object::Put, more)?;
+    keeper_of(alloc, &row.kept, reads, &puts)
 }
 
-/// What was sent on links that came back: a line for each, with its newline before it.
-fn sent_on(alloc: Global, wires: &[MemWire]) -> Result<Vec<u8>, AllocError> {
+/// What a server leaves: a line for each link and for each row that is kept, how often the gate was
+/// passed, and a line where a pause was given up.
+fn left_by(
+    alloc: Global,
+    outcome: &Outcome<RowWire, MemKeeper>,
+    passes: u64,
+    gave_up: u64,
+) -> Result<Vec<u8>, AllocError> {
     let mut text = Vec::new(alloc);
-    for wire in wires {
-        for link in wire.back() {
-            text.extend_from_slice(b"\nsent ")?;
-            put_hex(link.1.as_slice(), &mut text)?;
+    for k in 0..outcome.reports.len() {
+        if let Some(report) = outcome.reports.get(k) {
+            let told = Told {
+                worker: report.worker,
+                link: report.link,
+                conn: report.conn,
+                up: report.up_end,
+                down: report.down_end,
+            };
+            put_told(alloc, &told, &mut text)?;
         }
+    }
+    put_kept(&outcome.keeper, &mut text)?;
+    put_passes(passes, &mut text)?;
+    if gave_up > 0 {
+        put_parts(&[b"a pause was given up\n"], &mut text)?;
     }
     Ok(text)
 }

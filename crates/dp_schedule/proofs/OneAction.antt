@@ -15,7 +15,7 @@ use Rattle.dp_schedule.specs.declared.action.CanvasKind.TheVariants.{Snapshot, R
 use Rattle.dp_schedule.specs.LineGrammar.{WordsParse, NamesClient, EndsIn, HexSpells, join_word}
 use Rattle.dp_schedule.specs.LineGrammar.{instruction_word, canvas_word}
 
--- the sort of a first word, by its fourth byte, and by its third one where it has no fourth or the
+-- the sort of a first word, by its fourth byte, and by its third one if it has no fourth or the
 -- fourth is `p`: 0 that of a join, 1 of an instruction, 2 of what is printed
 sort_by : ℕ → ℕ → ℕ
 sort_by third byte =

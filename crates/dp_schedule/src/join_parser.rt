@@ -9,7 +9,7 @@ use crate::parser::{message_of, reset_of, word_of};
 use dp_lines::number;
 use std::alloc::{AllocError, Global};
 
-/// What the line of a script of `join` asks for; `None` where it asks for nothing.
+/// What the line of a script of `join` asks for; `None` if it asks for nothing.
 ///
 /// The rule: docs/protocol.md, "Joining".
 pub fn read_join_action(alloc: Global, line: &[u8]) -> Result<Option<JoinAction>, AllocError>

@@ -24,7 +24,7 @@ const SPACE: u8 = b' ';
 /// The least kind of a message that may be said.
 const LEAST_KIND: u8 = 32;
 
-/// What the line asks for; `None` where it asks for nothing.
+/// What the line asks for; `None` if it asks for nothing.
 ///
 /// The rule: docs/protocol.md, "The world".
 pub fn read_action(alloc: Global, line: &[u8]) -> Result<Option<Action>, AllocError>
@@ -47,7 +47,7 @@ pub fn read_action(alloc: Global, line: &[u8]) -> Result<Option<Action>, AllocEr
     read_three(alloc, first, second, third)
 }
 
-/// The word of the line at index `k`; `None` where it has no more than `k` words.
+/// The word of the line at index `k`; `None` if it has no more than `k` words.
 pub(crate) fn word_of(line: &[u8], k: usize) -> Option<&[u8]>
     ensures { option_copied result ≡ slice_get (words line.now) k }
 {

@@ -93,7 +93,7 @@ module _ (P : Past) (l : SessionLog) (e : Event) (first_fault : Option ℕ)
   no_fault : P.first_fault ≡ None
   no_fault = ap (λ p. p.first_fault) (sym past) ∙ is-none first_fault not
 
-  -- where there is room, an event is kept, or a put fails first
+  -- if there is room, an event is kept, or a put fails first
   room-serves : (answer : Reply) (new : Past) → has_room l.journal e ≡ true
       → Accepts P e answer new ⊎ FailsFirst P e answer new → Serves P.first_fault P e answer new
   room-serves answer new room h =

@@ -30,13 +30,13 @@ abbrev pub IsBadAfter : ℕ → Row → Type 0
 IsBadAfter n row =
     (before : List Event) × (length before ≡ n) × MayNotStand before row
 
--- a row that is told with its place may not stand there; where the rows are known it is the first
+-- a row that is told with its place may not stand there; if the rows are known it is the first
 abbrev pub IsBad : Option (List Row) → ResumeFault → Type 0
 IsBad known StoreFault = ⊤
 IsBad known (BadRow n row) = IsBadAfter n row × IfSome known (λ rows. IsFirstBad rows n row)
 IsBad known Memory = ⊤
 
--- the store's count of readings that failed: it rose where the store failed, and stays else
+-- the store's count of readings that failed: it rose if the store failed, and stays else
 abbrev pub CountsFault : ℕ → ResumeFault → ℕ → Type 0
 CountsFault before StoreFault now = Rose before now
 CountsFault before (BadRow n row) now = now ≡ before
@@ -77,7 +77,7 @@ ReadsPage old page (Err StoreFault) new = ⊥
 ReadsPage old page (Err (BadRow n row)) new = IsBadOf old.journal page n row
 ReadsPage old page (Err Memory) new = ⊤
 
--- nothing was refused, and the events are those of the store's first rows, where these are known
+-- nothing was refused, and the events are those of the store's first rows, if these are known
 pub record HasFirst (known : Option (List Row)) (tables : SessionLog) : Type 0 where
   pub rows : IfSome known (λ rows. AreRowsOf (take (length tables.journal) rows) tables.journal)
   pub shut : tables.shut ≡ []

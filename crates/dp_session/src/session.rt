@@ -189,7 +189,7 @@ impl<K: Keeper> Session<K> {
         }
     }
 
-    /// Takes an event. Where memory runs out, the connection of a Close gets nothing more.
+    /// Takes an event. If memory runs out, the connection of a Close gets nothing more.
     fn take(&mut self, event: &Event) -> Result<Reply, AllocError>
         ensures { Step self.old event.now result self.new }
     {

@@ -20,11 +20,11 @@ impl<K: Keeper> Session<K> {
 }
 
 impl Session<SureKeeper> {
-    /// Serves an event as `step` does, where no fault can come.
+    /// Serves an event as `step` does, if no fault can come.
     ///
     /// # Errors
     ///
-    /// Where memory runs out: nothing is kept, and the connection of a Close gets nothing more.
+    /// If memory runs out: nothing is kept, and the connection of a Close gets nothing more.
     ///
     /// The rule: docs/protocol.md, "The session".
     pub fn step_surely(&mut self, event: &Event) -> Result<Reply, AllocError>

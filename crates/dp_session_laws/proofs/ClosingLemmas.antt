@@ -47,14 +47,14 @@ quieted-shut old (event.Open name registered) = refl
 quieted-shut old (event.Say conn m) = refl
 quieted-shut old (event.Close conn) = refl
 
--- where an act that was not refused leaves the closings as they were
+-- if an act that was not refused leaves the closings as they were
 shuts-stay : (old : Past) (e : Event) (outcome : ReplyOrMemory) (new : Past) → new.shut ≡ old.shut
     → shut_by_outcome (length old.journal) e outcome ≡ []
     → new.shut ≡ old.shut ++ shut_by_outcome (length old.journal) e outcome
 shuts-stay old e outcome new same none =
     same ∙ sym (append-nil old.shut) ∙ ap (λ l. old.shut ++ l) (sym none)
 
--- where an act was refused
+-- if an act was refused
 shuts-grow : (old : Past) (e : Event) (outcome refusal : ReplyOrMemory) (new : Past)
     → outcome ≡ refusal → HasRefused old e new
     → shut_by_outcome (length old.journal) e refusal ≡ shut_with (length old.journal) [] e
@@ -135,7 +135,7 @@ broken-shuts old (act ∷ log) k s broken legal within =
         (outcome-shut (length old.journal) act.event act.outcome s first).1
     by_place same more (inr later) = more later ∙ ap length same
 
--- the cause of a closing that was refused where the session broke by this act
+-- the cause of a closing that was refused if the session broke by this act
 broken-cause : (old left : Past) (log : List LogEntry) (k : ℕ) (s : ShutAt)
     → left.first_fault ≡ Some k → Rose old.count left.count → IsSessionLog left log
     → s.n ≡ length left.journal → IsShutFor old (left_by left log) s

@@ -28,7 +28,7 @@ use Rattle.dp_session_laws.specs.Kept.{ArePuttable}
 say-length : (conn : ℕ) (m : Msg) → length (row_of (event.Say conn m)) ≡ 6 + length (payload_of m)
 say-length conn m = omega (arith, length-append {A = ℕ})
 
--- where a row as long as a Close's fits, a Close does
+-- if a row as long as a Close's fits, a Close does
 close-fits : (journal : List Event) (e : Event) → 5 ≤ length (row_of e)
     → has_room journal e ≡ true → has_room journal (event.Close 0) ≡ true
 close-fits journal e long room =
@@ -42,7 +42,7 @@ close-fits journal e long room =
     )) in
     rw (parts.0, le) refl
 
--- where it fits after more events, it fits after fewer
+-- if it fits after more events, it fits after fewer
 close-fitted : (journal : List Event) (e : Event)
     → has_room (journal ++ e ∷ []) (event.Close 0) ≡ true
     → has_room journal (event.Close 0) ≡ true

@@ -131,7 +131,7 @@ begins-later s t conn epoch grows b =
           inside-later s t b.connection.ending c.0.ending c.2.ending grows.epochs b.inside;
     }
 
--- where an event was answered by a connection, that was added
+-- if an event was answered by a connection, that was added
 effect-opens : (s : State) (e : Event) (effect : Effect) → IsEffect s e effect
     → (conn user epoch at : ℕ) → answer_of s effect ≡ reply.Opened conn user epoch at
     → Begins (made s e effect).state conn epoch

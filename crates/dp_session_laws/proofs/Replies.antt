@@ -37,7 +37,7 @@ shut-answers s (event.Close conn) =
     (λ (c : Connection). with_connection s conn (record c { ending = ending.Shut }))
     (open_connection s conn) s (λ (t : State). t.answers ≡ s.answers) (λ c is. refl) refl
 
--- where the state's answers stay, and the outcome has no reply of an event that is kept
+-- if the state's answers stay, and the outcome has no reply of an event that is kept
 answers-stay : (old : Past) (outcome : ReplyOrMemory) (new : Past)
     → (state_of new).answers ≡ (state_of old).answers → kept_reply outcome ≡ []
     → (state_of new).answers ≡ (state_of old).answers ++ kept_reply outcome

@@ -14,7 +14,7 @@ use Rattle.dp_session_laws.specs.Journals.{HasBroken}
 
 -- ---- connections
 
--- the connection that was given out, where that came
+-- the connection that was given out, if that came
 abbrev pub given_by : ReplyOrMemory → List ℕ
 given_by (Ok (Opened conn user epoch at)) = conn ∷ []
 given_by other = []

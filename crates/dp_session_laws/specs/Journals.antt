@@ -22,7 +22,7 @@ kept_events [] = []
 kept_events (act ∷ log) =
     if is_kept act.outcome then act.event ∷ kept_events log else kept_events log
 
--- the reply to an act of which that came, where the act is kept
+-- the reply to an act of which that came, if the act is kept
 abbrev pub kept_reply : ReplyOrMemory → List Reply
 kept_reply (Ok Ended) = []
 kept_reply (Ok (StoreFault count)) = []

@@ -21,8 +21,8 @@ HoldsJournal past rows =
 abbrev pub IsClosedUp : Past → Type 0
 IsClosedUp past = has_room past.journal (Close 0) ≡ false
 
--- The store of the session, where its rows are known, follows the journal. Closings were refused
--- only after a put had failed, or where there is no room for a Close any more.
+-- The store of the session, if its rows are known, follows the journal. Closings were refused
+-- only after a put had failed, or if there is no room for a Close any more.
 pub record IsStored (past : Past) : Type 0 where
   pub rows : IfSome past.known (HoldsJournal past)
   pub shut : (past.shut ≡ []) ⊎ (is_some past.first_fault ≡ true) ⊎ IsClosedUp past

@@ -57,7 +57,7 @@ pub fn stops_leave_journals()
     rows_spell_events();
 }
 
-/// Where no closing was refused before the last event, the journal alone leads to the histories
+/// If no closing was refused before the last event, the journal alone leads to the histories
 /// that were served.
 pub fn epochs_are_served()
     ensures { (past : Past) → All (λ s. s.n ≡ length past.journal) past.shut

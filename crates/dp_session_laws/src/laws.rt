@@ -69,7 +69,7 @@ pub fn shuts_are_logs()
     events_have_effects();
 }
 
-/// A connection is quiet only where it was so, or memory ran out in one of its Closes.
+/// A connection is quiet only if it was so, or memory ran out in one of its Closes.
 pub fn quiets_are_logs()
     ensures { (past : Past) (log : List LogEntry) (conn : ℕ) → IsSessionLog past log
         → Contains (left_by past log).quiet conn
@@ -89,7 +89,7 @@ pub fn one_connection_each()
     steps_lead_on();
 }
 
-/// Ended is answered only where the limits leave no room for the event after the journal there.
+/// Ended is answered only if the limits leave no room for the event after the journal there.
 pub fn ended_has_cause()
     ensures { (past : Past) (prefix : List LogEntry) (act : LogEntry) (back : List LogEntry)
         → IsSessionLog past (prefix ++ act ∷ back) → act.outcome ≡ Ok Ended
@@ -98,7 +98,7 @@ pub fn ended_has_cause()
     events_have_effects();
 }
 
-/// StoreFault is answered only where a put has failed since, which the store has counted.
+/// StoreFault is answered only if a put has failed since, which the store has counted.
 pub fn faults_are_counted()
     ensures { (past : Past) (log : List LogEntry) (act : LogEntry) (count : ℕ)
         → past.first_fault ≡ None

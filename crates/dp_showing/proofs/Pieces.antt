@@ -77,7 +77,7 @@ hex_text-flat_map f (x ∷ xs) =
 
 -- ---- two pieces
 
--- the first piece was written, and the second one where the call says so
+-- the first piece was written, and the second one if the call says so
 pub written_both : {E : Type 0} (r : Result Unit E) (a b c : Option (List ℕ)) (xs ys : List ℕ)
     → Appends a b xs → OnOk r (Appends b c ys) → OnOk r (Appends a c (xs ++ ys))
 written_both (Err e) a b c xs ys first second = tt

@@ -36,7 +36,7 @@ pub enum Shown {
 ///
 /// # Errors
 ///
-/// `Memory` where memory ran out, and `Failed` where the sink failed. A prefix of the text was
+/// `Memory` if memory ran out, and `Failed` if the sink failed. A prefix of the text was
 /// written then.
 ///
 /// The rule: docs/protocol.md, "Showing a client".

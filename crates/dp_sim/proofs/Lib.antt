@@ -3,6 +3,4 @@ pub mod LawLemmas
 pub mod Moves
 pub mod LawWorlds
 pub mod LawForbidden
-pub mod LawDepths
-pub mod LawOpenings
 pub mod CallLemmas

@@ -1,12 +1,6 @@
 //! Laws of worlds, each the contract of a function that does nothing but call others.
 
-ghost use Rattle.std.specs.Prelude.{◌≡◌, ℕ, List, [], ◌++◌};
-ghost use Rattle.dp_acl.specs.Opening.{opening};
-ghost use Rattle.dp_messages.specs.declared.message.Entry.{Entry};
-ghost use Rattle.dp_msg_draw.specs.declared.draw.Draw.{Draw as Command};
-ghost use Rattle.dp_plain.specs.Board.{empty_board};
-ghost use Rattle.dp_plain.specs.Commands.{draw, draw_all};
-ghost use Rattle.dp_replay.specs.Replay.{replay, replay_from, depth_in_force};
+ghost use Rattle.std.specs.Prelude.{List};
 ghost use Rattle.dp_schedule.specs.declared.action.Action.{Action};
 ghost use Rattle.dp_sim.specs.World.{World, first_world, after, world_after};
 ghost use Rattle.dp_sim.specs.Invariant.{IsWorld};
@@ -15,7 +9,7 @@ ghost use Rattle.dp_sim.specs.Headline.{Headline, ForbiddenChangesNothing};
 ghost use Rattle.dp_epochs.specs.State.{State};
 
 use dp_acl::forbidden_changes_no_right;
-use dp_board::{others_do_not_count, prefixes_without_points};
+use dp_board::others_do_not_count;
 use dp_client::entries_are_taken;
 use dp_epochs::{
     epochs_rise, events_have_effects, histories_are_marked, histories_are_permitted,
@@ -51,27 +45,6 @@ pub fn forbidden_changes_nothing()
     forbidden_changes_no_right();
     events_have_effects();
     others_do_not_count::<Draw>();
-}
-
-/// What an epoch opens with shows the commands of its reset, drawn in order on the empty board: of
-/// the epoch before nothing is seen but what they draw.
-pub fn resets_show_their_commands()
-    ensures { (epoch : ℕ) (history : List Entry) (present : List ℕ) (commands : List Command)
-        → replay (opening epoch history present commands []) ≡ draw_all empty_board commands }
-{
-    prefixes_without_points::<Draw>();
-}
-
-/// The replay of an opening followed by more is what the opening keeps and those more, replayed on
-/// the board that the commands of the reset draw, from the depth of undo that was in force before.
-pub fn openings_go_on()
-    ensures { (epoch : ℕ) (history : List Entry) (present : List ℕ) (commands : List Command)
-        (kept more : List Entry)
-        → replay (opening epoch history present commands kept ++ more)
-        ≡ replay_from draw (draw_all empty_board commands) (depth_in_force history)
-        (kept ++ more) }
-{
-    prefixes_without_points::<Draw>();
 }
 
 /// After every schedule each client has taken a prefix of the history of its epoch; its confirmed

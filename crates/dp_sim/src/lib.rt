@@ -9,8 +9,7 @@ mod reply_line;
 mod world;
 
 pub use laws::{
-    forbidden_changes_nothing, headline, instructions_are_moves, openings_go_on,
-    resets_show_their_commands, worlds_stay_worlds,
+    forbidden_changes_nothing, headline, instructions_are_moves, worlds_stay_worlds,
 };
 pub use participant::{LinkState, Participant};
 pub use world::World;

@@ -11,3 +11,4 @@ pub mod Speaking
 pub mod Streams
 pub mod TakenUp
 pub mod Shown
+pub mod KeptShown

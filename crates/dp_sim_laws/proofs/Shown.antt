@@ -30,7 +30,7 @@ use Rattle.dp_sim.specs.World.{World, participant_of, after, first_world, world_
 use Rattle.dp_sim.specs.World.{with_exchange}
 use Rattle.dp_sim.specs.Invariant.{IsWorld, IsParticipant, is_closed}
 use Rattle.dp_sim.proofs.LawLemmas.{Leading}
-use Rattle.dp_sim.proofs.LawOpenings.{opening_front, opening-depth}
+use Rattle.dp_keep_laws.proofs.Openings.{opening_front, opening-depth}
 use Rattle.dp_lists.proofs.Options.{at_some, if_some}
 use Rattle.dp_sim_laws.specs.OwnSteps.{exchange_of}
 use Rattle.dp_sim_laws.specs.Spelled.{SaysSpelled}
@@ -53,7 +53,7 @@ pub record Resetting : Type 0 where
 
 -- ---- the epoch that the reset opens
 
-world-along : ((w : World) (action : Action) → IsWorld w → IsWorld (after w action))
+pub world-along : ((w : World) (action : Action) → IsWorld w → IsWorld (after w action))
     → (w : World) (actions : List Action) → IsWorld w → IsWorld (fold after w actions)
 world-along stays w [] h = h
 world-along stays w (action ∷ actions) h =
@@ -80,7 +80,7 @@ module _ (laws : Resetting) (before later : List Action) (number epoch : ℕ) (k
   abbrev sent : Participant
   sent = (done (exchange_of start sender) (Reset keeps)).participant
 
-  started : IsWorld start
+  pub started : IsWorld start
   started = (spoken laws.speaking before each).world
 
   reset-done : exchanged (exchange_of start sender) (Reset keeps)
@@ -95,7 +95,7 @@ module _ (laws : Resetting) (before later : List Action) (number epoch : ℕ) (k
       ∙ ap (λ t. participant_of (with_exchange start number t) number) reset-done
       ∙ with-own start number sender (done (exchange_of start sender) (Reset keeps)) h.found
 
-  opened : OpenedWith epoch (place_in begin) commands
+  pub opened : OpenedWith epoch (place_in begin) commands
       (state_of (fold after (after start (Act number (Reset keeps))) later).past)
   opened =
       queued laws.leading laws.speaking.moves laws.speaking.stays number epoch (place_in begin)
@@ -106,7 +106,7 @@ module _ (laws : Resetting) (before later : List Action) (number epoch : ℕ) (k
       (h.answers ∙ answers-split commands epoch h.rest)
 
   -- the sender's canvas at its reset is what the commands draw
-  drawn : draw_all empty_board commands ≡ client.confirmed sender.state
+  pub drawn : draw_all empty_board commands ≡ client.confirmed sender.state
   drawn =
       let s = spoken laws.speaking before each in
       let hp = at_some (participant_of start number) (IsParticipant (state_of start.past) number)
@@ -118,7 +118,7 @@ module _ (laws : Resetting) (before later : List Action) (number epoch : ℕ) (k
 -- ---- what a client of that epoch has taken
 
 -- entries that begin so, as many as those
-same-first : (m : ℕ) (xs more ys others : List Entry) → xs ++ more ≡ take m (ys ++ others)
+pub same-first : (m : ℕ) (xs more ys others : List Entry) → xs ++ more ≡ take m (ys ++ others)
     → length xs ≡ length ys → xs ≡ ys
 same-first m [] more [] others is long = refl
 same-first m [] more (y ∷ ys) others is long = absurd (omega (arith, long))
@@ -139,7 +139,7 @@ same-before xs ys last is =
     (omega (arith, ap length is, length-append xs last, length-append ys last))
 
 -- what the client took first is the mark
-same-carried : (m : ℕ) (xs more others : List Entry) (epoch : ℕ) (history : List Entry)
+pub same-carried : (m : ℕ) (xs more others : List Entry) (epoch : ℕ) (history : List Entry)
     (present : List ℕ) (list : List Draw) (kept : List Entry)
     → xs ++ more ≡ take m (opening epoch history present list kept ++ others)
     → length xs ≡ carried_in (xs ++ more) + 1
@@ -182,7 +182,7 @@ front-at : (front : List (List Entry)) (before : List Entry) (rest : List (List 
 front-at [] before rest = refl
 front-at (h ∷ front) before rest = front-at front before rest
 
-before-is : (epoch : ℕ) (before : List Entry) (s : State) → EndedBefore epoch before s
+pub before-is : (epoch : ℕ) (before : List Entry) (s : State) → EndedBefore epoch before s
     → history_of s (epoch - 1) ≡ before
 before-is epoch before s h =
     let at : epoch - 1 ≡ length h.front = omega (arith, h.at) in

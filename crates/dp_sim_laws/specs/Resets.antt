@@ -9,7 +9,8 @@ use Rattle.dp_messages.specs.Properties.{carried_in}
 use Rattle.dp_acl.specs.Opening.{kept_from}
 use Rattle.dp_plain.specs.Board.{Board}
 use Rattle.dp_plain.specs.Commands.{draw}
-use Rattle.dp_replay.specs.Replay.{replay_from, depth_in_force}
+use Rattle.dp_replay.specs.Replay.{replay, replay_from, depth_in_force}
+use Rattle.dp_keep_laws.specs.Keeping.{MayBeCut}
 use Rattle.dp_client.specs.Client as client
 use Rattle.dp_epochs.specs.declared.event.Reply.{Reply}
 use Rattle.dp_epochs.specs.declared.event.Reply.TheVariants as reply
@@ -84,3 +85,11 @@ GoesOnFrom board kept c =
     (opening more : List Entry) → c.taken ≡ opening ++ kept ++ more
     → length (opening ++ kept) ≡ carried_in c.taken + 1
     → client.confirmed c ≡ replay_from draw board (depth_in_force opening) (kept ++ more)
+
+-- Where the client has taken all with which its epoch opened, and more, it shows what the history
+-- shows with the more after it, if that may be cut at the place.
+abbrev pub ShowsOn : ℕ → List Entry → client.State → Type 0
+ShowsOn place history c =
+    (opening more : List Entry) → c.taken ≡ opening ++ more
+    → length opening ≡ carried_in c.taken + 1 → MayBeCut place history more
+    → client.confirmed c ≡ replay (history ++ more)

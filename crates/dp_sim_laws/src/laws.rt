@@ -1,7 +1,7 @@
 //! Laws of schedules, each the contract of a function that does nothing but call others.
 
 ghost use Rattle.std.specs.Prelude.{◌≡◌, ◌≢◌, ◌≤◌, ℕ, Bool, List, ◌∷◌, ◌++◌, length, drop};
-ghost use Rattle.std.specs.Prelude.{IfSome, All};
+ghost use Rattle.std.specs.Prelude.{◌+◌, true, IfSome, All};
 ghost use Rattle.dp_client.specs.Client.{confirmed, own_of};
 ghost use Rattle.dp_epochs.specs.Past.{Past, state_of};
 ghost use Rattle.dp_epochs.specs.Rows.{event_limit};
@@ -13,7 +13,7 @@ ghost use Rattle.dp_schedule.specs.declared.action.Instruction.TheVariants.{Rese
 ghost use Rattle.dp_sim.specs.Exchanges.{Participant};
 ghost use Rattle.dp_sim.specs.World.{world_after, participant_of};
 ghost use Rattle.dp_sim_laws.specs.OwnSteps.{own_steps, GoesBy, next_of};
-ghost use Rattle.dp_sim_laws.specs.Resets.{IsTakenUp, GoesOnFrom, kept_over};
+ghost use Rattle.dp_sim_laws.specs.Resets.{IsTakenUp, GoesOnFrom, ShowsOn, kept_over};
 ghost use Rattle.dp_sim_laws.specs.Spelled.{AreSpelledEntries, IsSpelledEvent, SaysSpelled};
 ghost use Rattle.dp_sim_laws.specs.Tally.{IsUnended, tally_of};
 
@@ -23,8 +23,9 @@ use dp_epochs::{
     decisions_have_effects, effects_are_made, epochs_rise, events_have_effects,
     histories_are_marked, histories_are_short, histories_grow, steps_lead_on,
 };
+use dp_keep_laws::{kept_entries_show_the_same, openings_go_on};
 use dp_messages::one_equality;
-use dp_sim::{instructions_are_moves, openings_go_on, worlds_stay_worlds};
+use dp_sim::{instructions_are_moves, worlds_stay_worlds};
 use dp_snap_laws::{snapshots_are_spelled, snapshots_replay};
 
 /// After every schedule each client is where its own steps since its Welcome lead.
@@ -129,5 +130,34 @@ pub fn resets_show_the_senders_canvas()
     snapshots_are_spelled();
     snapshots_replay();
     openings_go_on();
+    entries_are_taken();
+}
+
+/// Where a client's reset that keeps was taken up in the epoch in which it was sent, every client of
+/// the next epoch that has taken the opening whole shows what the history of the epoch before shows,
+/// with what it has taken more. The premise: that history may be cut at the place up to which the
+/// sender had taken it.
+pub fn keeps_show_the_session()
+    ensures { (before later : List Action) (number epoch : ℕ) (sender : Participant)
+        → All SaysSpelled before → IsTakenUp before later number true sender epoch
+        → sender.state.epoch + 1 ≡ epoch → (other : ℕ)
+        → let world = world_after (before ++ Act number (Reset true) ∷ later) in
+        IfSome (participant_of world other) (λ participant. participant.state.epoch ≡ epoch
+        → ShowsOn (length sender.state.taken)
+        (history_of (state_of world.past) sender.state.epoch) participant.state) }
+{
+    instructions_are_moves();
+    worlds_stay_worlds();
+    steps_lead_on();
+    events_have_effects();
+    histories_grow();
+    epochs_rise();
+    histories_are_marked();
+    histories_are_spelled();
+    histories_are_short();
+    snapshots_are_spelled();
+    snapshots_replay();
+    openings_go_on();
+    kept_entries_show_the_same();
     entries_are_taken();
 }

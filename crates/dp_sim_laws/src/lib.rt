@@ -4,6 +4,6 @@
 mod laws;
 
 pub use laws::{
-    clients_go_by_their_steps, forks_are_plain, histories_are_spelled, no_fork_is_lost,
-    resets_show_the_senders_canvas, schedules_are_spelled,
+    clients_go_by_their_steps, forks_are_plain, histories_are_spelled, keeps_show_the_session,
+    no_fork_is_lost, resets_show_the_senders_canvas, schedules_are_spelled,
 };

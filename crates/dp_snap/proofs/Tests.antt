@@ -104,7 +104,7 @@ row_of_tile tile y n in_tile =
     (λ x in_row. get_or-take n (drop (y * 64) tile) x clear in_row
     ∙ get_or-drop (y * 64) tile x clear))
 
--- where the pixels of a message are all equal, so are those of the tile
+-- if the pixels of a message are all equal, so are those of the tile
 pub equal_tile : (tile : List Channels) (corner : Channels) (cols rows : ℕ) → length tile ≡ 4096
     → corner ≡ get_or tile 0 corner → cols ≤ 64 → rows ≤ 64
     → AreAllEqual (map tile_pixel tile)

@@ -14,14 +14,14 @@ use Rattle.dp_plain.specs.Board.{Board}
 use Rattle.dp_plain.specs.Picture.{pixels_of}
 use Rattle.dp_snap.specs.Tiles.{pixels_of_tile, shown_of, content_of_tile}
 
--- CanvasResize of the empty canvas to the sides, where they aren't 0
+-- CanvasResize of the empty canvas to the sides, if they aren't 0
 abbrev pub side_commands : Board → List Draw
 side_commands board =
     if board.width == 0
     then []
     else draws.CanvasResize (pos 0) (pos board.width) (pos board.height) (pos 0) ∷ []
 
--- Background, where it isn't 0
+-- Background, if it isn't 0
 abbrev pub background_commands : Board → List Draw
 background_commands board =
     if board.background == 0 then [] else draws.Background board.background ∷ []
@@ -49,7 +49,7 @@ attrs_of row =
     then []
     else draws.LayerAttr row.id row.opacity row.mode row.hidden ∷ []
 
--- PutTile of the tile at a column and a row of a layer with these pixels, where it isn't clear
+-- PutTile of the tile at a column and a row of a layer with these pixels, if it isn't clear
 abbrev pub put_of_tile : ℕ → ℕ → ℕ → List Channels → ℕ → ℕ → List Draw
 put_of_tile width height id pixels row col =
     option_map_or (λ content. draws.PutTile id col row 0 content ∷ [])

@@ -27,12 +27,12 @@ pixels_of_tile width height pixels col row =
 abbrev pub shown_of : ℕ → ℕ → ℕ
 shown_of side number = min 64 (side - number * 64)
 
--- the pixels of a tile that are on the canvas, where so many of its columns and rows are
+-- the pixels of a tile that are on the canvas, if so many of its columns and rows are
 abbrev pub on_canvas : ℕ → ℕ → List Channels → List Channels
 on_canvas cols rows tile = canvas_of cols rows (pixel_at 64 tile)
 
 -- What is put into a tile of these pixels. Where those on the canvas are equal, it is that one
--- pixel, or nothing where it is clear; else it is each of the 4096.
+-- pixel, or nothing if it is clear; else it is each of the 4096.
 abbrev pub content_of_tile : ℕ → ℕ → List Channels → Option TileContent
 content_of_tile cols rows tile =
     let corner = pixel_at 64 tile 0 0 in

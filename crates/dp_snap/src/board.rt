@@ -58,7 +58,7 @@ fn put_layers<V: BoardView>(canvas: &V, commands: &mut Commands) -> Result<(), A
     Ok(())
 }
 
-/// Adds the tiles of a row, where it is a paint row.
+/// Adds the tiles of a row, if it is a paint row.
 fn put_row<V: BoardView>(
     canvas: &V,
     row: &LayerRow,
@@ -125,7 +125,7 @@ fn put_tiles<V: BoardView>(
     Ok(())
 }
 
-/// Adds a tile of a paint layer, where it isn't clear.
+/// Adds a tile of a paint layer, if it isn't clear.
 fn put_tile<V: BoardView>(
     canvas: &V,
     id: u16,

@@ -15,7 +15,7 @@ use std::alloc::AllocError;
 /// The number of the mode normal.
 const NORMAL: u8 = 1;
 
-/// Adds the CanvasResize to the sides of the canvas, where they aren't 0.
+/// Adds the CanvasResize to the sides of the canvas, if they aren't 0.
 pub(crate) fn put_sides<V: BoardView>(canvas: &V, commands: &mut Commands) -> Result<(), AllocError>
     ensures { OnOk result (commands.new ≡ commands.old ++ side_commands (V.board canvas.now)) }
 {
@@ -31,7 +31,7 @@ pub(crate) fn put_sides<V: BoardView>(canvas: &V, commands: &mut Commands) -> Re
     })
 }
 
-/// Adds the Background, where it isn't 0.
+/// Adds the Background, if it isn't 0.
 pub(crate) fn put_background<V: BoardView>(
     canvas: &V,
     commands: &mut Commands,
@@ -83,7 +83,7 @@ pub(crate) fn put_moves(rows: &[LayerRow], commands: &mut Commands) -> Result<()
     Ok(())
 }
 
-/// Adds a LayerMove into the parent, where that isn't the root.
+/// Adds a LayerMove into the parent, if that isn't the root.
 fn put_move(id: u16, parent: u16, above: u16, commands: &mut Commands) -> Result<(), AllocError>
     ensures { OnOk result (commands.new ≡ commands.old
         ++ (if parent == 0 then [] else Draw.LayerMove id parent above ∷ [])) }

@@ -52,7 +52,7 @@ half_parent (row ∷ prefix) rest id =
     (λ (missed : (row.id == id) ≡ false). rw missed (half_parent prefix rest id))
     (cases_Bool (row.id == id))
 
--- what is read of the row of an id, where a row says the same in its place and at the root
+-- what is read of the row of an id, if a row says the same in its place and at the root
 module _ {X : Type 0} (read : Option LayerRow → X)
     (placed : (row : LayerRow) → read (Some (in_place row)) ≡ read (Some row))
     (rooted : (row : LayerRow) → read (Some (at_root row)) ≡ read (Some row)) where
@@ -96,7 +96,7 @@ has_middle (r ∷ prefix) row rest =
     (λ (missed : (r.id == row.id) ≡ false). rw missed (has_middle prefix row rest))
     (cases_Bool (r.id == row.id))
 
--- where no row has an id, the root is above it
+-- if no row has an id, the root is above it
 pub parent-none : (rows : List LayerRow) → All (λ row. row.id ≢ 0) rows → parent_of rows 0 ≡ 0
 parent-none [] each = refl
 parent-none (row ∷ rows) each =
@@ -171,7 +171,7 @@ module _ (rows now : List LayerRow)
 
 -- ---- a row that is moved into its parent
 
--- the row of the list is found by its id, where none before it has the id
+-- the row of the list is found by its id, if none before it has the id
 pub parent_middle : (prefix : List LayerRow) (row : LayerRow) (rest : List LayerRow)
     → NonePasses (has_id row.id) prefix → parent_of (prefix ++ row ∷ rest) row.id ≡ row.parent
 parent_middle [] row rest away = rw (eq-eqb row.id row.id refl) refl

@@ -117,7 +117,7 @@ module _ (board : Board) where
       ap (λ rs. rs ++ map at_root rest) (map-append in_place prefix (row ∷ []))
       ∙ append_assoc (map in_place prefix) (in_place row ∷ []) (map at_root rest)
 
-  -- the row before the next one has this id, 0 where there is none
+  -- the row before the next one has this id, 0 if there is none
   abbrev pub IsLast : List LayerRow → ℕ → Type 0
   IsLast prefix above =
       ((prefix ≡ []) × (above ≡ 0))

@@ -236,7 +236,7 @@ module _ (w h id : ℕ) (pixels : List Channels) where
           ∙ rw (own_tile, found)
           (replaced (pixel_at 64 tile (x % 64) (y % 64)) (pixel q) tile_at)
 
-      -- where the pixel is clear or its own, the tile of its place gives its own
+      -- if the pixel is clear or its own, the tile of its place gives its own
       put_own : (q : List Channels) → (pixel q ≡ clear) ⊎ (pixel q ≡ goal)
           → pixel (put (y / 64) (x / 64) q) ≡ goal
       put_own q was_open =

@@ -1,4 +1,4 @@
--- The commands of a snapshot have a spelling, where those that made the board have one.
+-- The commands of a snapshot have a spelling, if those that made the board have one.
 use Rattle.std.proofs.Common.{◌≡◌, ◌==◌, ℕ, zero, suc, ◌+◌, ◌*◌, ◌^◌, ◌<◌, ◌≤◌, Bool}
 use Rattle.std.proofs.Common.{not, List, [], ◌∷◌, ◌++◌, length, map, Option, None, Some, refl}
 use Rattle.std.proofs.Common.{sym, ◌∙◌, arith}

@@ -14,7 +14,7 @@ abbrev pub dialing : TcpState
 dialing = record { is_listening = false; faults = 0 }
 
 -- The wires of these devices: one that dials for a link, and one that listens for each worker of a
--- server, or none where the system refuses to listen.
+-- server, or none if the system refuses to listen.
 abbrev pub AreFor : Devices → List TcpState → Type 0
 AreFor Nothing wires = wires ≡ []
 AreFor (Dial addr) wires = wires ≡ dialing ∷ []

@@ -10,7 +10,7 @@ use std::alloc::{AllocError, Global};
 use std::net::{Net, TcpListener, TcpStream};
 
 /// The wires that the words want: one that dials the server of `join`, one that listens for each
-/// worker of a server, and none for other words. There are none where the system refuses to listen.
+/// worker of a server, and none for other words. There are none if the system refuses to listen.
 pub fn wires_for<N: Net<Listener = TcpListener, Stream = TcpStream> + Copy + Drop>(
     net: &N,
     alloc: Global,

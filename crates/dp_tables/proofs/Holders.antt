@@ -18,7 +18,7 @@ any-head : (b any : Bool) (n : ℕ) → any ≡ ltb 0 n → (b || any) ≡ ltb 0
 any-head true any n h = sym (lt-ltb 0 (1 + n) (omega arith))
 any-head false any n h = h ∙ ap (ltb 0) (sym (zero-add n))
 
--- some item passes exactly where the count isn't 0
+-- some item passes exactly if the count isn't 0
 any-count : {X : Type 0} (p : X → Bool) (xs : List X) → list_any p xs ≡ ltb 0 (count_by p xs)
 any-count p [] = refl
 any-count p (x ∷ xs) =

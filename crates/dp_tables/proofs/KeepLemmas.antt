@@ -1,4 +1,4 @@
--- What holds where an event may be kept.
+-- What holds if an event may be kept.
 use Rattle.std.proofs.Common.{◌≡◌, ℕ, ◌+◌, ◌<◌, ◌≤◌, true, nat_lt, nat_le, List, length, ap, arith}
 use Rattle.std.specs.Prelude.{vec_len, vec_capacity}
 use Rattle.std.proofs.lemmas.Bool.{ltb-true, leb-true, and_parts}
@@ -40,7 +40,7 @@ row-fits t e effect supply row_length are may =
       may.long,
     )
 
--- where memory is ready, these lists have room: the journal, the connections, their flags, the
+-- if memory is ready, these lists have room: the journal, the connections, their flags, the
 -- parts
 pub ready-lists : (t : Inside) → is_ready t ≡ true
     → (vec_len t.journal < vec_capacity t.journal)

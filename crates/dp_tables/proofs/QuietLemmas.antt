@@ -23,7 +23,7 @@ use Rattle.dp_tables.specs.Ready.{quiet_after}
 use Rattle.dp_history.proofs.Ranges.{find-first, find-none, filter-range_same, list_any-find}
 use Rattle.dp_history.proofs.Ranges.{list_any-filter, both}
 
--- a number of a range is among those that pass a test exactly where it passes
+-- a number of a range is among those that pass a test exactly if it passes
 any-range : (p : ℕ → Bool) (low n conn : ℕ) → low ≤ conn → conn < low + n
     → list_any (λ other. other == conn) (filter p (range_with_len low n)) ≡ p conn
 any-range p low n conn above below =
@@ -42,7 +42,7 @@ any-range p low n conn above below =
     ∙ sym fails)
     (cases_Bool (p conn))
 
--- the number of a connection that was given out is listed exactly where it is flagged
+-- the number of a connection that was given out is listed exactly if it is flagged
 pub quiet-listed : (flags : List Bool) (conn : ℕ) → 0 < conn → conn ≤ length flags
     → list_any (λ other. other == conn) (quiet_of flags) ≡ mark flags (conn - 1)
 quiet-listed flags conn above below =

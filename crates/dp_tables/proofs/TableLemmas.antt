@@ -179,13 +179,13 @@ own-placed journal (event.Open name registered) (Placed n c) says = absurd says
 own-placed journal (event.Close conn) (Placed n c) says = absurd says
 own-placed journal e effect says = (refl, All-nil (IsIn (journal ++ e ∷ [])))
 
--- where no epoch opens, entries are placed after the live history
+-- if no epoch opens, entries are placed after the live history
 pub live-more : (s : State) (e : Event) (effect : Effect) → opens_epoch effect ≡ false
     → (live_after s e effect ≡ s.live ++ entries_of e effect) × (ended_after s effect ≡ s.ended)
 live-more s e (Reopened conn c) stays = cc
 live-more s e effect stays = (refl, refl)
 
--- where one opens, there is one more
+-- if one opens, there is one more
 ended-more : (s : State) (effect : Effect) → opens_epoch effect ≡ true
     → length (ended_after s effect) ≡ length s.ended + 1
 ended-more s (Reopened conn c) opens = length-append s.ended (s.live ∷ [])
@@ -815,7 +815,7 @@ ledger-is a b journal shut quiet room =
 
 -- ---- an event was kept
 
--- where memory is ready, there is room for two entries
+-- if memory is ready, there is room for two entries
 pub ready-live : (t : Inside) → is_ready t ≡ true → vec_len t.live + 2 ≤ vec_capacity t.live
 ready-live t ready =
     let parts = and_parts _ (nat_le 2 t.rights.room) ready in

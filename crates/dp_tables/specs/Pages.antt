@@ -13,7 +13,7 @@ abbrev pub answer_of : List Entry → ℕ → Option Due → Answer
 answer_of live most None = Gone
 answer_of live most (Some due) = Entries due.epoch due.at (page due.at most (take due.end live))
 
--- an answer to a Pull, where the frames of its entries were put after what was there
+-- an answer to a Pull, if the frames of its entries were put after what was there
 abbrev pub AnswersBy : Answer → Option Page → List ℕ → List ℕ → Type 0
 AnswersBy Gone None old new = new ≡ old
 AnswersBy Gone (Some page) old new = ⊥

@@ -25,12 +25,12 @@ use Rattle.dp_tables.specs.SessionLog.{SessionLog, state_in}
 
 -- ---- what is placed
 
--- the entry of what the event says, where that is placed
+-- the entry of what the event says, if that is placed
 abbrev pub own_entries : Event → Effect → List Entry
 own_entries e (Placed conn connection) = entry_of connection.user (own_message e) ∷ []
 own_entries e other = []
 
--- as it is kept, where the event is the journal's n-th
+-- as it is kept, if the event is the journal's n-th
 abbrev pub own_items : ℕ → Effect → List HistoryItem
 own_items n (Placed conn connection) = item.Said n connection.user ∷ []
 own_items n other = []
@@ -114,7 +114,7 @@ abbrev pub quiet_after : Effect → List Bool → List Bool
 quiet_after (Joined user next) quiet = quiet ++ false ∷ []
 quiet_after other quiet = quiet
 
--- the connections where that of a number, if it was found open, is closed without a Leave
+-- the connections if that of a number, if it was found open, is closed without a Leave
 abbrev pub closed_in : ℕ → Option Connection → List Connection → List Connection
 closed_in conn None connections = connections
 closed_in conn (Some connection) connections =
@@ -140,12 +140,12 @@ owner_after (Dropped conn connection) owner = None
 owner_after (Reopened conn connection) owner = None
 owner_after other owner = owner
 
--- The place that it names, as the event says where one begins. It says nothing where none is sent.
+-- The place that it names, as the event says where one begins. It says nothing if none is sent.
 abbrev pub place_after : Event → Effect → Option ℕ → Option ℕ
 place_after e (Began conn connection) place = place_in (own_message e)
 place_after e other place = place
 
--- its parts, where the event is the journal's n-th
+-- its parts, if the event is the journal's n-th
 abbrev pub parts_after : ℕ → Effect → Option ℕ → List ℕ → List ℕ
 parts_after n (Left conn connection next) owner parts =
     if is_sender conn owner then [] else parts
@@ -155,7 +155,7 @@ parts_after n (Dropped conn connection) owner parts = []
 parts_after n (Reopened conn connection) owner parts = []
 parts_after n other owner parts = parts
 
--- how many bytes they have, where the event's payload has this size
+-- how many bytes they have, if the event's payload has this size
 abbrev pub bytes_after : ℕ → Effect → Option ℕ → ℕ → ℕ
 bytes_after size (Left conn connection next) owner bytes =
     if is_sender conn owner then 0 else bytes

@@ -407,7 +407,7 @@ impl Tables {
         }
     }
 
-    /// Makes a connection quiet, if it was given out, where nothing else can be done. It takes no
+    /// Makes a connection quiet, if it was given out, if nothing else can be done. It takes no
     /// memory.
     pub fn quieten(&mut self, conn: u32)
         ensures { self.new ≡ record self.old {

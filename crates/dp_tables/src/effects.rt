@@ -219,7 +219,7 @@ impl Tables {
         })
     }
 
-    /// The event as it is ready to be kept; `None` where there is no room for it.
+    /// The event as it is ready to be kept; `None` if there is no room for it.
     pub fn prepare(&self, event: &Event) -> Result<Option<Ready>, AllocError>
         ensures { IfOk result (λ found. MatchOption found
             (has_room self.now.journal event.now ≡ false) (IsReady self.now event.now)) }

@@ -14,21 +14,30 @@ use std::process::Abort;
 enum Wanted {
     Replay,
     World,
-    Play(Option<u32>),
+    Play(Option<u32>, u32),
+    Drill(u64, u32, u32),
     Join(&'static str, &'static str),
     Serve(&'static str, u32, Option<u32>, Option<&'static str>),
     Bad,
 }
 
 /// Words that are separated by bars, and the command line that they are.
-const LINES: [(&str, Wanted); 59] = [
+const LINES: [(&str, Wanted); 80] = [
     ("replay", Replay),
     ("replay|--", Replay),
     ("world", World),
-    ("play", Play(None)),
-    ("play|--at|0", Play(Some(0))),
-    ("play|--at=7", Play(Some(7))),
-    ("play|--at|4294967295", Play(Some(4_294_967_295))),
+    ("play", Play(None, 1)),
+    ("play|--at|0", Play(Some(0), 1)),
+    ("play|--at=7", Play(Some(7), 1)),
+    ("play|--at|4294967295", Play(Some(4_294_967_295), 1)),
+    ("play|--workers|1", Play(None, 1)),
+    ("play|--workers=64", Play(None, 64)),
+    ("play|--workers|7|--at=3", Play(Some(3), 7)),
+    ("drill|0|0|1", Drill(0, 0, 1)),
+    (
+        "drill|18446744073709551615|100000|64",
+        Drill(18_446_744_073_709_551_615, 100_000, 64),
+    ),
     ("join|localhost:4000|ann", Join("localhost:4000", "ann")),
     ("join|--|-a|-b", Join("-a", "-b")),
     ("join||ann", Join("", "ann")),
@@ -76,6 +85,22 @@ const LINES: [(&str, Wanted); 59] = [
     ("play|--at|4294967296", Bad),
     ("play|--at|1|--at|2", Bad),
     ("play|7", Bad),
+    ("play|--workers|0", Bad),
+    ("play|--workers|65", Bad),
+    ("play|--workers|+3", Bad),
+    ("play|--workers|1|--workers|1", Bad),
+    ("drill", Bad),
+    ("drill|1", Bad),
+    ("drill|1|1", Bad),
+    ("drill|1|1|1|1", Bad),
+    ("drill|1|1|0", Bad),
+    ("drill|1|1|65", Bad),
+    ("drill|1|100001|1", Bad),
+    ("drill|18446744073709551616|1|1", Bad),
+    ("drill|-1|1|1", Bad),
+    ("drill|01|1|1", Bad),
+    ("drill|x|1|1", Bad),
+    ("drill|1|+1|1", Bad),
     ("join", Bad),
     ("join|a", Bad),
     ("join|a|", Bad),
@@ -118,7 +143,15 @@ fn words_of(rt: &impl Abort, alloc: Global, line: &str) -> Vec<String> {
 fn is_wanted_local(command: &LocalCommand, wanted: Wanted) -> bool {
     match (command, wanted) {
         (LocalCommand::Replay, Replay) | (LocalCommand::World, World) => true,
-        (LocalCommand::Play { at }, Play(wanted)) => *at == wanted,
+        (LocalCommand::Play { at, workers }, Play(wanted, by)) => *at == wanted && *workers == by,
+        (
+            LocalCommand::Drill {
+                seed,
+                rounds,
+                workers,
+            },
+            Drill(from, times, by),
+        ) => *seed == from && *rounds == times && *workers == by,
         _ => false,
     }
 }

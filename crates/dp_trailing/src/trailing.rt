@@ -15,6 +15,7 @@ use dp_rollback::{KeptAct, Mark, draw_act, is_draw, mark_all, mark_of, stroke_la
 use dp_steps::Steps;
 use std::alloc::{AllocError, Global};
 use std::marker::Model;
+use std::mem::replace;
 use std::sync::ledger::Ledger;
 
 /// How many more acts are held, at least, before those that no act can move any more are drawn.
@@ -105,6 +106,14 @@ impl<B: Board> TrailingBoard<B> {
             kept: Vec::new(alloc),
             limit: SLACK,
         })
+    }
+
+    /// Puts a board in the place of the one that trails, and gives that back.
+    pub fn put_board(&mut self, board: B) -> B
+        ensures old { result ≡ self.old.board }
+        ensures new { self.new ≡ record self.old { board = board } }
+    {
+        replace(&mut self.board, board)
     }
 
     /// Adds an act to the history.

@@ -3,3 +3,4 @@ pub mod Recordings
 pub mod Replaying
 pub mod Showing
 pub mod Given
+pub mod Written

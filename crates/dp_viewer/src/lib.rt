@@ -4,6 +4,8 @@
 mod laws;
 mod pictures;
 mod reading;
+mod workers;
 
 pub use laws::{each_play_ends, each_replay_ends, one_play, one_replay};
 pub use pictures::{run_play, run_replay};
+pub use workers::Playing;

@@ -7,12 +7,15 @@ ghost use Rattle.dp_viewer.specs.Reading.{ReadsToEnd, WritesShown};
 ghost use Rattle.dp_viewer.specs.Ways.{play_way, replay_way};
 
 use crate::reading::{Reading, ShownBoard, blank_board, read_frames, read_recording};
+use crate::workers::{Playing, WorkersBoard};
 use dp_flat::{PictureEnd, write_p6};
 use dp_io::{Sink, Source};
 use dp_lines::RunEnd;
 use dp_steps::Steps;
+use dp_wire::Gate;
 use std::alloc::Global;
 use std::sync::ledger::Ledger;
+use std::thread::Threads;
 
 /// Reads frames to the input's end, and writes the P6 picture of what they show. Where the input
 /// ends inside a frame, the picture is that of the whole ones.
@@ -51,7 +54,7 @@ pub fn run_replay<I: Source, O: Sink, D: Ledger, T: Ledger>(
 
 /// Reads a recording to its end, and writes the P6 picture of its first entries, so many, or of
 /// all. Those after them are read and judged all the same. Where the recording ends inside a frame,
-/// the picture is that of the whole ones.
+/// the picture is that of the whole ones. What is written is the same for each number of workers.
 ///
 /// # Errors
 ///
@@ -59,15 +62,16 @@ pub fn run_replay<I: Source, O: Sink, D: Ledger, T: Ledger>(
 /// from the input's start.
 ///
 /// The rule: docs/protocol.md, "Recordings".
-pub fn run_play<I: Source, O: Sink, D: Ledger, T: Ledger>(
+pub fn run_play<R: Threads + Sync, I: Source, O: Sink, G: Gate, D: Ledger, T: Ledger>(
+    rt: &R,
     alloc: Global,
     input: &mut I,
     output: &mut O,
-    at: Option<u32>,
+    playing: Playing<'_, G>,
     draws: &mut Steps<D>,
     tiles: &mut Steps<T>,
 ) -> RunEnd
-    ensures leaves { PictureLeaves (play_way at) (I.left input.old) (I.left input.new)
+    ensures leaves { PictureLeaves (play_way playing.at) (I.left input.old) (I.left input.new)
         (O.held output.old) (O.held output.new) result }
     ensures fault { FaultMatchesEnd (I.faults input.old) (I.faults input.new)
         (O.faults output.old) (O.faults output.new) result }
@@ -77,9 +81,10 @@ pub fn run_play<I: Source, O: Sink, D: Ledger, T: Ledger>(
     let Ok(blank) = blank_board(alloc) else {
         return RunEnd::Memory;
     };
-    let Reading { board, end } = read_recording(alloc, input, at, blank, draws, tiles);
+    let mut shown = WorkersBoard::new(rt, blank, playing);
+    let end = read_recording(alloc, input, &mut shown, draws, tiles);
     if reads_to_end(end) {
-        write_shown(alloc, board, output, end, draws, tiles)
+        shown.write(alloc, output, end, draws, tiles)
     } else {
         end
     }

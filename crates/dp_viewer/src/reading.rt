@@ -9,6 +9,7 @@ ghost use Rattle.dp_viewer.specs.Reading.{FaultMatchesWay, EndsReading, ReadsToE
 ghost use Rattle.dp_viewer.specs.Reading.{AreDue, TrailsShown, is_due};
 ghost use Rattle.dp_viewer.specs.Ways.{first_of, play_way, replay_way};
 
+use crate::workers::WorkersBoard;
 use dp_canvas::DeferredBoard;
 use dp_entries::{Anywhere, EntryReader};
 use dp_io::Source;
@@ -18,8 +19,10 @@ use dp_recording::RecordingReader;
 use dp_replay::{UNDO_DEPTH, act_of_entry};
 use dp_steps::Steps;
 use dp_trailing::TrailingBoard;
+use dp_wire::Gate;
 use std::alloc::{AllocError, Global};
 use std::sync::ledger::Ledger;
+use std::thread::Threads;
 
 /// How many bytes of the input of `replay` count: 1 GiB.
 const INPUT_LIMIT: u64 = 1 << 30;
@@ -105,48 +108,39 @@ fn show<D: Ledger, T: Ledger>(
     }
 }
 
-/// Reads a recording in the same way. Of its entries the first are shown, so many, or all; those
-/// after them are read all the same.
-pub(crate) fn read_recording<I: Source, D: Ledger, T: Ledger>(
+/// Reads a recording in the same way. Of its entries the first are shown, so many as are due, or
+/// all; those after them are read all the same.
+pub(crate) fn read_recording<R: Threads + Sync, I: Source, G: Gate, D: Ledger, T: Ledger>(
     alloc: Global,
     input: &mut I,
-    at: Option<u32>,
-    mut board: ShownBoard,
+    shown: &mut WorkersBoard<'_, R, G>,
     draws: &mut Steps<D>,
     tiles: &mut Steps<T>,
-) -> Reading
-    requires { TrailsShown board [] }
+) -> RunEnd
+    requires { TrailsShown shown.old.board [] }
     ensures told { IfSome (I.left input.old) (λ bytes.
-        EndsReading (play_way at) bytes (I.left input.new) result.board result.end) }
-    ensures fault { FaultMatchesWay (play_way at) (I.faults input.old) (I.faults input.new)
-        result.end }
+        EndsReading (play_way shown.old.due) bytes (I.left input.new) shown.new.board result) }
+    ensures fault { FaultMatchesWay (play_way shown.old.due) (I.faults input.old)
+        (I.faults input.new) result }
     ensures later { I.faults input.old ≤ I.faults input.new }
-    ensures to_end { ReadsToEnd result.end → IsAtEnd (I.left input.new) }
+    ensures to_end { ReadsToEnd result → IsAtEnd (I.left input.new) }
 {
     let mut reader = RecordingReader::new();
-    let mut due = at;
     'entries: loop {
         let entry = match reader.next(alloc, input) {
             Ok(Some(entry)) => entry,
-            Ok(None) => {
-                let end = RunEnd::Done;
-                return Reading { board, end };
-            }
-            Err(error) => {
-                let end = error.run_end();
-                return Reading { board, end };
-            }
+            Ok(None) => return RunEnd::Done,
+            Err(error) => return error.run_end(),
         };
-        if show_due(alloc, &mut board, &mut due, entry, draws, tiles).is_err() {
-            let end = RunEnd::Memory;
-            return Reading { board, end };
+        if shown.show(alloc, entry, draws, tiles).is_err() {
+            return RunEnd::Memory;
         }
     }
 }
 
 /// Shows the next entry where it is one of the first so many, of which `due` are left, or of all.
 #[inline(always)]
-fn show_due<D: Ledger, T: Ledger>(
+pub(crate) fn show_due<D: Ledger, T: Ledger>(
     alloc: Global,
     board: &mut ShownBoard,
     due: &mut Option<u32>,

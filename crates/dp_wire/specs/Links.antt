@@ -1,4 +1,4 @@
--- Links, and what the calls of a wire do with them, where they are known.
+-- Links, and what the calls of a wire do with them, if they are known.
 use Rattle.std.specs.Prelude.{◌≡◌, List, [], ◌∷◌, ◌++◌, Option, None, Some, Result, Ok, Err, ⊤}
 
 -- The links of a wire: those to come, those handed out as they were then, and those handed back as

@@ -9,7 +9,7 @@ fn crosses<T: Send>() {}
 /// What threads share.
 fn shared<T: Sync>() {}
 
-/// Wires and links may cross threads, a wire over TCP where its handle of the net may. Threads may
+/// Wires and links may cross threads, a wire over TCP if its handle of the net may. Threads may
 /// share an open gate.
 pub fn links_cross_threads<N: Send>() {
     crosses::<MemWire>();

@@ -100,7 +100,7 @@ impl Wire for MemWire {
         ensures memory { result ≡ Err WireError.Memory
             → self.new.plan.faults ≡ self.old.plan.faults }
 
-        // It fails at the listed calls alone. At the others there is no link exactly where none is
+        // It fails at the listed calls alone. At the others there is no link exactly if none is
         // to come, so that it runs out of memory only for a link that it has.
         ensures failed { (result ≡ Err WireError.Failed) ↔ IsDue self.old.plan }
         ensures none { (result ≡ Ok None)
@@ -122,7 +122,7 @@ impl Wire for MemWire {
         ensures memory { result ≡ Err WireError.Memory
             → self.new.plan.faults ≡ self.old.plan.faults }
 
-        // It fails at the listed calls and where no link is to come.
+        // It fails at the listed calls and if no link is to come.
         ensures failed { (result ≡ Err WireError.Failed)
             ↔ (IsDue self.old.plan ⊎ (self.old.links.to_come ≡ [])) }
         ensures grown { self.old.room ≤ self.new.room }

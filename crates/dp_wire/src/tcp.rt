@@ -9,7 +9,7 @@ ghost use Rattle.dp_wire.specs.Causes.{is_wire_fault};
 mod halves;
 
 use crate::{Wire, WireError};
-use halves::link_of;
+use halves::{close, link_of};
 pub use halves::{TcpRx, TcpTx};
 use std::alloc::{AllocError, Global};
 use std::io;
@@ -47,7 +47,7 @@ impl<N: Net<Listener = TcpListener, Stream = TcpStream> + Copy> TcpWire<N> {
     ///
     /// # Errors
     ///
-    /// `Failed` where the system refused to listen there, and `Memory` where memory ran out.
+    /// `Failed` if the system refused to listen there, and `Memory` if memory ran out.
     pub fn listen(
         net: &N,
         alloc: Global,
@@ -78,7 +78,7 @@ impl<N: Net<Listener = TcpListener, Stream = TcpStream> + Copy> TcpWire<N> {
     ///
     /// # Errors
     ///
-    /// Where memory runs out.
+    /// If memory runs out.
     pub fn dialer(net: &N, alloc: Global, addr: &str) -> Result<TcpWire<N>, AllocError>
         ensures { IfOk result (λ wire. wire ≡ record { is_listening = false; faults = 0 }) }
     {
@@ -86,7 +86,7 @@ impl<N: Net<Listener = TcpListener, Stream = TcpStream> + Copy> TcpWire<N> {
         Ok(TcpWire::at(*net, Place::Dialing(addr)))
     }
 
-    /// The port that it listens at. `None` where it dials, or where the system does not say.
+    /// The port that it listens at. `None` if it dials, or if the system does not say.
     pub fn port(&self) -> Option<u16>
         ensures { IsFalse self.now.is_listening → result ≡ None }
     {
@@ -180,25 +180,42 @@ impl<N: Net<Listener = TcpListener, Stream = TcpStream> + Drop> Wire for TcpWire
         }
     }
 
-    /// Closes the link.
+    /// Closes the link so that the last bytes arrive.
     fn done(&mut self, rx: TcpRx, tx: TcpTx)
         ensures { self.new ≡ self.old }
     {
-        drop(rx);
-        drop(tx);
+        close(rx, tx);
     }
 }
 
-/// The next link of a listener. A peer that was gone before its link was given is passed over.
+/// The numbers by which the system tells, in place of a link, that one was lost before it was
+/// given: EPERM, ENONET, EPROTO, ENOPROTOOPT, EOPNOTSUPP, ENETDOWN, ENETUNREACH, ECONNABORTED,
+/// ECONNRESET, ETIMEDOUT, EHOSTDOWN and EHOSTUNREACH.
+const LOST: [i32; 12] = [1, 64, 71, 92, 95, 100, 101, 103, 104, 110, 112, 113];
+
+/// The next link of a listener. One that was lost before it was given is passed over, and so is one
+/// whose socket takes no option or has no second handle: the peer finds it closed.
 fn next_link(listener: &TcpListener) -> io::Result<(TcpRx, TcpTx)> {
     for _ in 0..u64::MAX {
         match listener.accept() {
-            Ok((stream, _)) => return link_of(stream),
-            Err(error) if error.kind() == ErrorKind::ConnectionAborted => {}
+            Ok((stream, _)) => {
+                if let Ok(link) = link_of(stream) {
+                    return Ok(link);
+                }
+            }
+            Err(error) if is_lost(&error) => {}
             Err(error) => return Err(error),
         }
     }
     Err(ErrorKind::ConnectionAborted.into())
+}
+
+/// Whether an error tells that a link was lost before it was given.
+fn is_lost(error: &io::Error) -> bool {
+    match error.raw_os_error() {
+        Some(number) => LOST.contains(&number),
+        None => false,
+    }
 }
 
 /// A link to this address.

@@ -29,14 +29,14 @@ impl From<AllocError> for WireError {
 /// What hands out links, one after another, and takes them back. A link is a source of what its
 /// peer sends and a sink for what the peer is sent.
 ///
-/// A link handed back stands at the end of those that came back before. So where links come back in
+/// A link handed back stands at the end of those that came back before. So if links come back in
 /// the order in which they were handed out, the two states of one link stand at the same place.
 pub trait Wire {
     type Rx: Source + Send + Drop;
 
     type Tx: Sink + Send + Drop;
 
-    /// The links, where they are known.
+    /// The links, if they are known.
     ghost links: { Self → Option (Links Self.Rx Self.Tx) };
 
     /// How often the wire has failed; the count stops at the greatest `u64`.
@@ -45,12 +45,12 @@ pub trait Wire {
     /// How many links may be handed back before one is handed out again.
     ghost room: { Self → ℕ };
 
-    /// The next link that a peer opens, or `None` exactly where none is to come. It may wait for
+    /// The next link that a peer opens, or `None` exactly if none is to come. It may wait for
     /// one.
     ///
     /// # Errors
     ///
-    /// `Failed` comes only where the count of faults rose in this call, and `Memory` where memory
+    /// `Failed` comes only if the count of faults rose in this call, and `Memory` if memory
     /// ran out. The links stay. `Ok` and `Memory` leave the count.
     fn accept(&mut self) -> Result<Option<(Self::Rx, Self::Tx)>, WireError>
         ensures links { Accepts (links self.old) result (links self.new) }

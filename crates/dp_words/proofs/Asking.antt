@@ -2,7 +2,7 @@
 use Rattle.std.proofs.Common.{◌≡◌, ◌<◌, ℕ, zero, suc, ◌+◌, List, [], ◌∷◌, Option, Some, None}
 use Rattle.std.proofs.Common.{Bool, true, false, IfNone, ap, ap₂, arith, codes, decimal, length}
 use Rattle.std.proofs.Common.{refl, slice_index, subst, sym, ◌∙◌}
-use Rattle.std.proofs.lemmas.Fmt.{first_decimal}
+use Rattle.std.proofs.lemmas.Fmt.{decimal_injective, first_decimal}
 use Rattle.std.proofs.lemmas.Slice.Eq.{bytes_eq-Decides}
 use Rattle.std.specs.Fmt.{digits}
 use Rattle.std.specs.Prelude.{Decides, IfOk, MatchBool, Result, unwrap_or}
@@ -13,13 +13,13 @@ use Rattle.clap.specs.Walk.{Row, Text, first_of}
 use Rattle.dp_lines.specs.Numbers.{IsNumber}
 use Rattle.dp_words.specs.declared.command_line.CommandLine.{CommandLine}
 use Rattle.dp_words.specs.declared.command_line.CommandLine.TheVariants.{Local, Join, Listen}
-use Rattle.dp_words.specs.declared.command_line.LocalCommand.TheVariants.{Play}
+use Rattle.dp_words.specs.declared.command_line.LocalCommand.TheVariants.{Play, Drill}
 use Rattle.dp_words.specs.declared.command_line.Service.TheVariants.{Session}
 use Rattle.dp_words.specs.CommandLines.{AsksBy, AsksIn, AsksOf, IsCommandLine}
-use Rattle.dp_words.specs.Forms.{Form, forms, join_form, play_form, replay_form, serve_form}
-use Rattle.dp_words.specs.Forms.{world_form}
+use Rattle.dp_words.specs.Forms.{Form, drill_form, forms, join_form, play_form, replay_form}
+use Rattle.dp_words.specs.Forms.{serve_form, world_form}
 use Rattle.dp_words.specs.Program.{program}
-use Rattle.dp_words.specs.Values.{HasAt, HasWorkers}
+use Rattle.dp_words.specs.Values.{HasAt, HasRounds, HasSeed, HasWorkers, HasWorkersOrOne}
 
 -- ---- each form asks for one thing
 
@@ -52,9 +52,40 @@ replay-one rows a b x y = x ∙ sym y
 world-one : AsksOne world_form
 world-one rows a b x y = x ∙ sym y
 
+workers-or-one : OneNumber → (found : Option Text) (m n : ℕ)
+    → HasWorkersOrOne found m → HasWorkersOrOne found n → m ≡ n
+workers-or-one one None m n x y = x ∙ sym y
+workers-or-one one (Some word) m n x y = one-workers one (Some word) m n x y
+
+-- if a word is there, it is no number of workers if it is none that a server takes
+pub some-or-one : (found : Option Text) (word : Text) (read : Option ℕ) → found ≡ Some word
+    → IfNone read ((n : ℕ) → HasWorkers found n → ⊥)
+    → IfNone read ((n : ℕ) → HasWorkersOrOne found n → ⊥)
+some-or-one None word read there none = cc
+some-or-one (Some found) word read there none = none
+
 play-one : OneNumber → AsksOne play_form
-play-one one rows a b (at, x, e) (other, y, f) =
-    e ∙ ap (λ n. Local (Play n)) (one-at one _ at other x y) ∙ sym f
+play-one one rows a b x y =
+    x.4 ∙ ap₂ (λ at n. Local (Play at n)) (one-at one _ x.0 y.0 x.2 y.2)
+    (workers-or-one one _ x.1 y.1 x.3 y.3) ∙ sym y.4
+
+one-seed : (found : Option Text) (m n : ℕ) → HasSeed found m → HasSeed found n → m ≡ n
+one-seed None m n x y = absurd x
+one-seed (Some word) m n x y = decimal_injective m n x.fits y.fits (sym x.text ∙ y.text)
+
+one-rounds : OneNumber → (found : Option Text) (m n : ℕ)
+    → HasRounds found m → HasRounds found n → m ≡ n
+one-rounds one None m n x y = absurd x
+one-rounds one (Some word) m n x y = one word m n x.0 y.0
+
+drill-one : OneNumber → AsksOne drill_form
+drill-one one rows a b x y =
+    let seeds-are : x.0 ≡ y.0 = one-seed _ x.0 y.0 x.3 y.3 in
+    let rounds-are : x.1 ≡ y.1 = one-rounds one _ x.1 y.1 x.4 y.4 in
+    let workers-are : x.2 ≡ y.2 = one-workers one _ x.2 y.2 x.5 y.5 in
+    let a-is : a ≡ Local (Drill x.0 x.1 x.2) = x.6 in
+    let b-is : b ≡ Local (Drill y.0 y.1 y.2) = y.6 in
+    cc
 
 join-one : AsksOne join_form
 join-one rows a b x y = x.6 ∙ ap₂ Join (some-same x.2 y.2) (some-same x.3 y.3) ∙ sym y.6
@@ -75,7 +106,8 @@ EachAsksOne [] = Unit {0}
 EachAsksOne (form ∷ rest) = AsksOne form × EachAsksOne rest
 
 each-one : OneNumber → EachAsksOne forms
-each-one one = (replay-one, (world-one, (play-one one, (join-one, (serve-one one, tt)))))
+each-one one =
+    (replay-one, (world-one, (play-one one, (drill-one one, (join-one, (serve-one one, tt))))))
 
 either-one : (test : Bool) (form : Form) (rest : List Form) (name : Text) (rows : List Row)
     (a b : CommandLine) → AsksOne form
@@ -99,7 +131,7 @@ one-in one (Some entered) a b x y = one-of forms (each-one one) entered.0 entere
 
 -- ---- words that ask for nothing
 
--- what asks for nothing where the matches stand asks for nothing by the words
+-- what asks for nothing if the matches stand asks for nothing by the words
 pub none-asked : (words : List Text) (entered : Option (Text × List Row))
     (line : Option CommandLine)
     → entered ≡ subcommand_of program words
@@ -139,7 +171,7 @@ pub signed-words : (words : List Text) (rows : List Row) (rest : Text)
     → first_of (codes "at") rows ≡ Some (43 ∷ rest) → IsCommandLine words → ⊥
 signed-words words rows rest named at (line, asked) =
     let asks : play_form.asks rows line = subst (λ e. AsksIn e line) named asked.1 in
-    no-plus-at rest asks.0 (subst (λ o. HasAt o asks.0) at asks.1)
+    no-plus-at rest asks.0 (subst (λ o. HasAt o asks.0) at asks.2)
 
 -- none of these forms has the name
 abbrev pub NoneNamed : List Form → Text → Type 0

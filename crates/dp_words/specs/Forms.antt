@@ -4,10 +4,12 @@ use Rattle.clap.specs.Walk.{Row, Text, first_of}
 use Rattle.dp_words.specs.declared.command_line.CommandLine.{CommandLine}
 use Rattle.dp_words.specs.declared.command_line.CommandLine.TheVariants.{Local, Join, Listen}
 use Rattle.dp_words.specs.declared.command_line.LocalCommand.TheVariants.{Replay, World, Play}
+use Rattle.dp_words.specs.declared.command_line.LocalCommand.TheVariants.{Drill}
 use Rattle.dp_words.specs.declared.command_line.Service.TheVariants.{Session}
 use Rattle.dp_words.specs.declared.form.Kind.{Kind}
 use Rattle.dp_words.specs.declared.form.Kind.TheVariants.{Word, Named}
-use Rattle.dp_words.specs.Values.{HasAt, HasWorkers, IsConns}
+use Rattle.dp_words.specs.Values.{HasAt, HasRounds, HasSeed, HasWorkers, HasWorkersOrOne}
+use Rattle.dp_words.specs.Values.{IsConns}
 
 -- a command's words: their name, the words and options that may follow it, and the line for which
 -- they ask with such values
@@ -24,13 +26,26 @@ abbrev pub world_form : Form
 world_form =
     record { name = codes "world"; params = []; asks = λ rows line. line ≡ Local World }
 
--- `play [--at N]`
+-- `play [--at N] [--workers W]`
 abbrev pub play_form : Form
 play_form = record {
   name = codes "play";
-  params = (codes "at", Named false) ∷ [];
-  asks = λ rows line. (at : Option ℕ) × HasAt (first_of (codes "at") rows) at
-      × (line ≡ Local (Play at));
+  params = (codes "at", Named false) ∷ (codes "workers", Named false) ∷ [];
+  asks = λ rows line. (at : Option ℕ) × (workers : ℕ) × HasAt (first_of (codes "at") rows) at
+      × HasWorkersOrOne (first_of (codes "workers") rows) workers
+      × (line ≡ Local (Play at workers));
+}
+
+-- `drill SEED ROUNDS WORKERS`
+abbrev pub drill_form : Form
+drill_form = record {
+  name = codes "drill";
+  params = (codes "seed", Word) ∷ (codes "rounds", Word) ∷ (codes "workers", Word) ∷ [];
+  asks = λ rows line. (seed : ℕ) × (rounds : ℕ) × (workers : ℕ)
+      × HasSeed (first_of (codes "seed") rows) seed
+      × HasRounds (first_of (codes "rounds") rows) rounds
+      × HasWorkers (first_of (codes "workers") rows) workers
+      × (line ≡ Local (Drill seed rounds workers));
 }
 
 -- `join ADDR NAME`
@@ -57,4 +72,5 @@ serve_form = record {
 }
 
 abbrev pub forms : List Form
-forms = replay_form ∷ world_form ∷ play_form ∷ join_form ∷ serve_form ∷ []
+forms =
+    replay_form ∷ world_form ∷ play_form ∷ drill_form ∷ join_form ∷ serve_form ∷ []

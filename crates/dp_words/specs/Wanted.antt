@@ -9,13 +9,13 @@ use Rattle.dp_words.specs.declared.devices.Devices.TheVariants.{Nothing, Dial, L
 use Rattle.dp_words.specs.CommandLines.{AsksFor, IsCommandLine}
 
 -- the devices of a command line: a link to the server that it joins, or a wire for each worker and
--- the file of its journal, where one is named
+-- the file of its journal, if one is named
 abbrev pub devices_of : CommandLine → Devices
 devices_of (line.Local command) = Nothing
 devices_of (line.Join addr name) = Dial addr
 devices_of (line.Listen addr workers conns (Session journal)) = Listen addr workers journal
 
--- The words want these devices: those of the line for which they ask, and nothing where they ask
+-- The words want these devices: those of the line for which they ask, and nothing if they ask
 -- for none.
 abbrev pub Wants : List Text → Devices → Type 0
 Wants words devices =

@@ -10,7 +10,7 @@ use clap::Command;
 use std::alloc::{AllocError, Global};
 
 /// The commands. What their words ask for: `asked_by` of the parser.
-static FORMS: [Form; 5] = [
+static FORMS: [Form; 6] = [
     Form {
         name: "replay",
         params: &[],
@@ -21,7 +21,14 @@ static FORMS: [Form; 5] = [
     },
     Form {
         name: "play",
-        params: &[("at", Named { required: false })],
+        params: &[
+            ("at", Named { required: false }),
+            ("workers", Named { required: false }),
+        ],
+    },
+    Form {
+        name: "drill",
+        params: &[("seed", Word), ("rounds", Word), ("workers", Word)],
     },
     Form {
         name: "join",

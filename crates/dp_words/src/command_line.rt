@@ -14,7 +14,7 @@ pub enum CommandLine {
         name: Text,
     },
     /// A server at `addr` with so many workers, from 1 to 64. Each worker ends after `conns`
-    /// links, at least 1, or goes on where there is no such number.
+    /// links, at least 1, or goes on if there is no such number.
     Listen {
         addr: Word,
         workers: u32,
@@ -30,13 +30,24 @@ pub enum LocalCommand {
     Replay,
     /// A schedule on the input, its report on the output.
     World,
-    /// A recording on the input, a picture on the output: of its first `at` entries, or of all.
-    Play { at: Option<u32> },
+    /// A recording on the input, a picture on the output: of its first `at` entries, or of all. So
+    /// many workers, from 1 to 64, paint it.
+    Play {
+        at: Option<u32>,
+        workers: u32,
+    },
+    /// A session that is made from a number, with so many rounds, at most 100,000; its summary on
+    /// the output. So many workers, from 1 to 64, paint it.
+    Drill {
+        seed: u64,
+        rounds: u32,
+        workers: u32,
+    },
 }
 
 /// What a server serves.
 #[derive(Debug, Drop)]
 pub enum Service {
-    /// One session, whose rows are kept in this file, or in memory where there is none.
+    /// One session, whose rows are kept in this file, or in memory if there is none.
     Session { journal: Option<Word> },
 }

@@ -18,7 +18,7 @@ pub enum Devices {
         addr: Word,
     },
     /// So many wires that hand out the links that are made to this address, and a store of rows in
-    /// this file, where there is one.
+    /// this file, if there is one.
     Listen {
         addr: Word,
         workers: u32,

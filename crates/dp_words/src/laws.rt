@@ -5,7 +5,7 @@ ghost use Rattle.clap.specs.Walk.{Text};
 ghost use Rattle.dp_words.specs.declared.command_line.CommandLine.{CommandLine};
 ghost use Rattle.dp_words.specs.declared.command_line.CommandLine.TheVariants.{Local, Join, Listen};
 ghost use Rattle.dp_words.specs.declared.command_line.LocalCommand.TheVariants.{Replay, World};
-ghost use Rattle.dp_words.specs.declared.command_line.LocalCommand.TheVariants.{Play};
+ghost use Rattle.dp_words.specs.declared.command_line.LocalCommand.TheVariants.{Play, Drill};
 ghost use Rattle.dp_words.specs.declared.command_line.Service.TheVariants.{Session};
 ghost use Rattle.dp_words.specs.CommandLines.{AsksFor, IsCommandLine};
 ghost use Rattle.dp_words.specs.Several.{HasPlaces};
@@ -24,11 +24,15 @@ pub fn one_command_line()
 pub fn some_command_lines()
     ensures replay { AsksFor (codes "replay" ∷ []) (Local Replay) }
     ensures world { AsksFor (codes "world" ∷ []) (Local World) }
-    ensures play { AsksFor (codes "play" ∷ []) (Local (Play None)) }
+    ensures play { AsksFor (codes "play" ∷ []) (Local (Play None 1)) }
     ensures play_at { AsksFor (codes "play" ∷ codes "--at" ∷ codes "30" ∷ [])
-        (Local (Play (Some 30))) }
+        (Local (Play (Some 30) 1)) }
     ensures play_at_one_word { AsksFor (codes "play" ∷ codes "--at=30" ∷ [])
-        (Local (Play (Some 30))) }
+        (Local (Play (Some 30) 1)) }
+    ensures play_workers { AsksFor (codes "play" ∷ codes "--workers" ∷ codes "7" ∷ [])
+        (Local (Play None 7)) }
+    ensures drill { AsksFor (codes "drill" ∷ codes "18446744073709551615" ∷ codes "100000"
+        ∷ codes "64" ∷ []) (Local (Drill 18446744073709551615 100000 64)) }
     ensures join { AsksFor (codes "join" ∷ codes "localhost:7" ∷ codes "ann" ∷ [])
         (Join (codes "localhost:7") (codes "ann")) }
     ensures serve { AsksFor (codes "serve" ∷ codes "localhost:7" ∷ codes "--workers" ∷ codes "2"
@@ -40,6 +44,7 @@ pub fn some_command_lines()
         ∷ codes "2" ∷ codes "--journal" ∷ codes "a.db" ∷ [])
         (Listen (codes "localhost:7") 2 None (Session (Some (codes "a.db")))) }
     ensures no_workers { ¬ IsCommandLine (codes "serve" ∷ codes "localhost:7" ∷ []) }
+    ensures no_seed { ¬ IsCommandLine (codes "drill" ∷ codes "1" ∷ codes "1" ∷ []) }
     ensures no_word { ¬ IsCommandLine [] }
     ensures another_word { ¬ IsCommandLine (codes "paint" ∷ []) }
     ensures a_word_too_many { ¬ IsCommandLine (codes "replay" ∷ codes "replay" ∷ []) }

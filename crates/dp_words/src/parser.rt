@@ -1,23 +1,24 @@
 //! Reading a command line.
 
-ghost use Rattle.std.specs.Prelude.{◌≡◌, ℕ, Option, codes, map, option_map, string_bytes};
+ghost use Rattle.std.specs.Prelude.{◌≡◌, ◌≤◌, ℕ, Option, codes, map, option_map, string_bytes};
 ghost use Rattle.std.specs.Prelude.{IfNone, IfOk, IfSome};
 ghost use Rattle.clap.specs.Words.{first_of, found_of, rows_of, subcommand_rows_of};
 ghost use Rattle.dp_words.specs.declared.command_line.CommandLine.{CommandLine};
 ghost use Rattle.dp_words.specs.CommandLines.{AsksBy, AsksFor, AsksIn, FitsLimits, IsCommandLine};
-ghost use Rattle.dp_words.specs.Forms.{join_form, play_form, serve_form};
-ghost use Rattle.dp_words.specs.Values.{HasAt, HasWorkers, IsConns};
+ghost use Rattle.dp_words.specs.Forms.{drill_form, join_form, play_form, serve_form};
+ghost use Rattle.dp_words.specs.Values.{HasAt, HasRounds, HasSeed, HasWorkers, HasWorkersOrOne};
+ghost use Rattle.dp_words.specs.Values.{IsConns};
 
 use crate::app::drawpile_of;
 use crate::command_line::{CommandLine, LocalCommand, Service};
 use crate::word::{Word, word_of};
 use clap::ArgMatches;
 use clap::error::ErrorKind;
-use dp_lines::{number, one_number};
+use dp_lines::{long_number, number, one_number};
 use dp_msg_meta::Text;
 use std::alloc::{AllocError, Global};
 
-/// What the words ask for, which stand after the program's name. `None` where they are no command
+/// What the words ask for, which stand after the program's name. `None` if they are no command
 /// line; so are words that ask for help.
 pub fn read_words(alloc: Global, words: &[String]) -> Result<Option<CommandLine>, AllocError>
     ensures some { IfOk result (λ line. IfSome line (AsksFor (map string_bytes words.now))) }
@@ -61,13 +62,14 @@ fn asked_by(
         "replay" => Ok(Some(CommandLine::Local(LocalCommand::Replay))),
         "world" => Ok(Some(CommandLine::Local(LocalCommand::World))),
         "play" => Ok(played(given)),
+        "drill" => Ok(drilled(given)),
         "join" => joined(alloc, given),
         "serve" => served(alloc, given),
         _ => Ok(None),
     }
 }
 
-/// `play` with its option.
+/// `play` with its options, if their numbers are ones that it takes.
 fn played(given: &ArgMatches) -> Option<CommandLine>
     ensures some { IfSome result (play_form.asks (rows_of (found_of given.now))) }
     ensures none { IfNone result ((other : CommandLine)
@@ -78,7 +80,25 @@ fn played(given: &ArgMatches) -> Option<CommandLine>
         Some(word) => Some(number(word.as_bytes())?),
         None => None,
     };
-    Some(CommandLine::Local(LocalCommand::Play { at }))
+    let workers = workers_or_one(given)?;
+    Some(CommandLine::Local(LocalCommand::Play { at, workers }))
+}
+
+/// `drill` with its words, if they are numbers that it takes.
+fn drilled(given: &ArgMatches) -> Option<CommandLine>
+    ensures some { IfSome result (drill_form.asks (rows_of (found_of given.now))) }
+    ensures none { IfNone result ((other : CommandLine)
+        → ¬ AsksBy (codes "drill") (rows_of (found_of given.now)) other) }
+    ensures limits { IfSome result FitsLimits }
+{
+    let seed = seed_of(given)?;
+    let rounds = rounds_of(given)?;
+    let workers = workers_of(given)?;
+    Some(CommandLine::Local(LocalCommand::Drill {
+        seed,
+        rounds,
+        workers,
+    }))
 }
 
 /// `join` with its words, if the name has from 1 to 32 bytes.
@@ -124,12 +144,40 @@ fn served(alloc: Global, given: &ArgMatches) -> Result<Option<CommandLine>, Allo
     }))
 }
 
+/// The number from which a drill is made, if it is one of 64 bits.
+fn seed_of(given: &ArgMatches) -> Option<u64>
+    ensures some { IfSome result
+        (HasSeed (first_of (codes "seed") (rows_of (found_of given.now)))) }
+    ensures none { IfNone result ((n : ℕ)
+        → ¬ HasSeed (first_of (codes "seed") (rows_of (found_of given.now))) n) }
+{
+    long_number(value_of(given, "seed")?.as_bytes())
+}
+
+/// The number of rounds of a drill, if it is at most 100,000.
+fn rounds_of(given: &ArgMatches) -> Option<u32>
+    ensures some { IfSome result
+        (HasRounds (first_of (codes "rounds") (rows_of (found_of given.now)))) }
+    ensures none { IfNone result ((n : ℕ)
+        → ¬ HasRounds (first_of (codes "rounds") (rows_of (found_of given.now))) n) }
+    ensures range { IfSome result (λ n. n ≤ 100000) }
+{
+    one_number();
+    let rounds = number(value_of(given, "rounds")?.as_bytes())?;
+    if rounds <= 100_000 {
+        Some(rounds)
+    } else {
+        None
+    }
+}
+
 /// The number of workers, if it is from 1 to 64.
 fn workers_of(given: &ArgMatches) -> Option<u32>
     ensures some { IfSome result
         (HasWorkers (first_of (codes "workers") (rows_of (found_of given.now)))) }
     ensures none { IfNone result ((n : ℕ)
         → ¬ HasWorkers (first_of (codes "workers") (rows_of (found_of given.now))) n) }
+    ensures range { IfSome result (λ n. (1 ≤ n) × (n ≤ 64)) }
 {
     one_number();
     let workers = number(value_of(given, "workers")?.as_bytes())?;
@@ -140,7 +188,21 @@ fn workers_of(given: &ArgMatches) -> Option<u32>
     }
 }
 
-/// The number of links, where there is one. `None` if it is there and not at least 1.
+/// The number of workers, if it is from 1 to 64; 1 if none is given.
+fn workers_or_one(given: &ArgMatches) -> Option<u32>
+    ensures some { IfSome result
+        (HasWorkersOrOne (first_of (codes "workers") (rows_of (found_of given.now)))) }
+    ensures none { IfNone result ((n : ℕ)
+        → ¬ HasWorkersOrOne (first_of (codes "workers") (rows_of (found_of given.now))) n) }
+    ensures range { IfSome result (λ n. (1 ≤ n) × (n ≤ 64)) }
+{
+    match value_of(given, "workers") {
+        Some(_) => workers_of(given),
+        None => Some(1),
+    }
+}
+
+/// The number of links, if there is one. `None` if it is there and not at least 1.
 fn conns_of(given: &ArgMatches) -> Option<Option<u32>>
     ensures some { IfSome result (λ conns. IsConns conns
         × HasAt (first_of (codes "conns") (rows_of (found_of given.now))) conns) }

@@ -37,7 +37,7 @@ impl Word {
     }
 }
 
-/// A word with a copy of these characters, where there are some.
+/// A word with a copy of these characters, if there are some.
 pub(crate) fn word_of(alloc: Global, text: Option<&str>) -> Result<Option<Word>, AllocError>
     ensures { IfOk result (λ made. made ≡ option_map (λ s. s.now) text.entry) }
 {

@@ -15,9 +15,15 @@ use std::time::Duration;
 /// How many seconds a write may wait for a peer that takes no byte.
 const WRITE_SECONDS: u64 = 30;
 
+/// How long a read of a link that is being closed may wait for the peer.
+const CLOSE_MILLIS: u64 = 100;
+
+/// How many reads of such a link there may be.
+const CLOSE_READS: u32 = 64;
+
 /// The source of a link: what the peer sends. A clause sees it as its number of faults.
 ///
-/// Only tested: it waits for the peer without limit, it ends where the peer has closed its half,
+/// Only tested: it waits for the peer without limit, it ends if the peer has closed its half,
 /// and it ends once a write of the link has failed. A read that a signal interrupted is made again,
 /// and counts nothing; no test has such a signal.
 #[derive(Drop)]
@@ -119,7 +125,32 @@ pub(super) fn link_within(stream: TcpStream, limit: Duration) -> io::Result<(Tcp
     Ok((rx, TcpTx { stream, faults: 0 }))
 }
 
-/// Reads once, and again where a signal interrupted it.
+/// Closes a link so that the last bytes that were written arrive. A socket that is closed with
+/// bytes unread resets its link, and what was written last may be lost by that. So the half to the
+/// peer is closed first, and what the peer still sends is read for a moment, or until its end.
+pub(super) fn close(rx: TcpRx, tx: TcpTx) {
+    let mut stream = rx.stream;
+    if tx.stream.shutdown(Shutdown::Write).is_err() {
+        return;
+    }
+    let wait = Duration::from_millis(CLOSE_MILLIS);
+    if stream.set_read_timeout(Some(wait)).is_ok() {
+        read_to_close(&mut stream);
+    }
+}
+
+/// Reads what a peer still sends, until there is none for a moment, at most so often.
+fn read_to_close(stream: &mut TcpStream) {
+    let mut buf = [0; 4096];
+    for _ in 0..CLOSE_READS {
+        match read_through(stream, &mut buf) {
+            Ok(count) if count > 0 => {}
+            _ => return,
+        }
+    }
+}
+
+/// Reads once, and again if a signal interrupted it.
 fn read_through(stream: &mut TcpStream, buf: &mut [u8]) -> io::Result<usize>
     ensures { ReadsAtMost result buf.new }
 {
@@ -132,7 +163,7 @@ fn read_through(stream: &mut TcpStream, buf: &mut [u8]) -> io::Result<usize>
     Err(ErrorKind::Interrupted.into())
 }
 
-/// Writes once, and again where a signal interrupted it.
+/// Writes once, and again if a signal interrupted it.
 fn write_through(stream: &mut TcpStream, bytes: &[u8]) -> io::Result<usize>
     ensures { WritesAtMost result bytes.now }
 {

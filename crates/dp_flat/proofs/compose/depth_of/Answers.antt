@@ -1,4 +1,4 @@
--- Where no row is a group, one level is enough.
+-- If no row is a group, one level is enough.
 use Rattle.std.proofs.Common.{◌≡◌, true, false, rules, tests, subst, length, List}
 use Rattle.std.specs.List.{AllWithin}
 use Rattle.std.proofs.lemmas.Bool.{MatchBool-at_false}

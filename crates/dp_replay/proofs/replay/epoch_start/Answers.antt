@@ -7,7 +7,7 @@ use Rattle.dp_messages.specs.declared.message.Entry.{Entry}
 use Rattle.dp_replay.specs.Replay.{is_mark}
 use Rattle.dp_replay.proofs.replay.epoch_start.Goals as goal
 
--- after the last mark stands what begins where no entry is a mark, and the one before is one
+-- after the last mark stands what begins if no entry is a mark, and the one before is one
 start_is : (entries : List Entry) (start : ℕ) (d : Entry) → start ≤ length entries →
     ((k : ℕ) → start ≤ k → k < length entries → is_mark (get_or entries k d) ≡ false) →
     (0 < start → is_mark (get_or entries (start - 1) d) ≡ true)

@@ -5,7 +5,7 @@ use Rattle.dp_messages.specs.declared.message.Msg.{Msg}
 use Rattle.dp_schedule.specs.LineGrammar.{MaySay, HexSpells}
 use Rattle.dp_schedule.proofs.parser.message_of.Goals as goal
 
--- where no message may be said by the bytes of the digits, the digits spell none
+-- if no message may be said by the bytes of the digits, the digits spell none
 none_spelled : {E : Type 0} (digits bytes : List ℕ) (r : Result (Option Msg) E)
     → Some bytes ≡ hex_bytes digits
     → IfOk r (λ found. IfNone found ((m : Msg) → ¬ MaySay bytes m))

@@ -4,31 +4,31 @@ use Rattle.dp_viewer.proofs.pictures.run_play.Goals as goal
 
 pub returns-then-reads_to_end-clause-leaves : goal.returns-then-reads_to_end-clause-leaves
 returns-then-reads_to_end-clause-leaves g c =
-    let read = c.read_recording-board in
+    let read = c.read_recording-end in
     let to_end = c.reads_to_end.ensures.yes c.if-reads_to_end.true in
-    shown_leaves (play_way c.args.at) (g.I.Source.left c.args.input.now)
+    shown_leaves (play_way c.args.playing.at) (g.I.Source.left c.args.input.now)
     (g.I.Source.left read.new.input) (g.O.Sink.held c.args.output.now)
-    (g.O.Sink.held c.write_shown.new.output)
-    (g.O.Sink.faults c.args.output.now) (g.O.Sink.faults c.write_shown.new.output)
-    read.result.board read.result.end c.write_shown.result read.ensures.told to_end
-    (read.ensures.to_end to_end) c.write_shown.ensures.shown
+    (g.O.Sink.held c.write.new.output)
+    (g.O.Sink.faults c.args.output.now) (g.O.Sink.faults c.write.new.output)
+    read.new.shown.board read.result c.write.result read.ensures.told to_end
+    (read.ensures.to_end to_end) c.write.ensures.shown
 
 pub returns-then-reads_to_end-clause-fault : goal.returns-then-reads_to_end-clause-fault
 returns-then-reads_to_end-clause-fault g c =
-    let read = c.read_recording-board in
-    shown_fault (play_way c.args.at) (g.O.Sink.held c.args.output.now)
-    (g.O.Sink.held c.write_shown.new.output)
+    let read = c.read_recording-end in
+    shown_fault (play_way c.args.playing.at) (g.O.Sink.held c.args.output.now)
+    (g.O.Sink.held c.write.new.output)
     (g.I.Source.faults c.args.input.now) (g.I.Source.faults read.new.input)
-    (g.O.Sink.faults c.args.output.now) (g.O.Sink.faults c.write_shown.new.output)
-    read.result.board read.result.end c.write_shown.result
+    (g.O.Sink.faults c.args.output.now) (g.O.Sink.faults c.write.new.output)
+    read.new.shown.board read.result c.write.result
     read.ensures.fault (c.reads_to_end.ensures.yes c.if-reads_to_end.true)
-    c.write_shown.ensures.shown
+    c.write.ensures.shown
 
 pub returns-else-reads_to_end-clause-leaves : goal.returns-else-reads_to_end-clause-leaves
 returns-else-reads_to_end-clause-leaves g c =
-    let read = c.read_recording-board in
-    nothing_shown (play_way c.args.at) (g.I.Source.left c.args.input.now)
+    let read = c.read_recording-end in
+    nothing_shown (play_way c.args.playing.at) (g.I.Source.left c.args.input.now)
     (g.I.Source.left read.new.input) (g.O.Sink.held c.args.output.now)
     (g.I.Source.faults c.args.input.now) (g.I.Source.faults read.new.input)
-    read.result.board read.result.end read.ensures.told read.ensures.fault
+    read.new.shown.board read.result read.ensures.told read.ensures.fault
     (λ to_end. let yes = c.reads_to_end.ensures.no to_end in cc)

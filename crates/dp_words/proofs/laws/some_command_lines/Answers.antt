@@ -20,16 +20,49 @@ returns-clause-world c = (refl, refl)
 
 pub returns-clause-play : goal.returns-clause-play
 unfolding clap_on_literals
-returns-clause-play c = (refl, (None, tt, refl))
+returns-clause-play c = (refl, (None, 1, tt, refl, refl))
 
 pub returns-clause-play_at : goal.returns-clause-play_at
 unfolding clap_on_literals digits
-returns-clause-play_at c = (refl, (Some 30, record { fits = lit< tt; text = refl }, refl))
+returns-clause-play_at c =
+    (refl, (Some 30, 1, record { fits = lit< tt; text = refl }, refl, refl))
 
 pub returns-clause-play_at_one_word : goal.returns-clause-play_at_one_word
 unfolding clap_on_literals digits
 returns-clause-play_at_one_word c =
-    (refl, (Some 30, record { fits = lit< tt; text = refl }, refl))
+    (refl, (Some 30, 1, record { fits = lit< tt; text = refl }, refl, refl))
+
+pub returns-clause-play_workers : goal.returns-clause-play_workers
+unfolding clap_on_literals digits
+returns-clause-play_workers c = (
+  refl,
+  (
+    None,
+    7,
+    tt,
+    (record { fits = lit< tt; text = refl }, lit≤ tt, lit≤ tt),
+    refl,
+  ),
+)
+
+pub returns-clause-drill : goal.returns-clause-drill
+unfolding clap_on_literals digits
+returns-clause-drill c = (
+  refl,
+  (
+    18446744073709551615,
+    100000,
+    64,
+    record { fits = lit< tt; text = refl },
+    (record { fits = lit< tt; text = refl }, lit≤ tt),
+    (record { fits = lit< tt; text = refl }, lit≤ tt, lit≤ tt),
+    refl,
+  ),
+)
+
+pub returns-clause-no_seed : goal.returns-clause-no_seed
+unfolding clap_on_literals
+returns-clause-no_seed c = faulty (codes "drill" ∷ codes "1" ∷ codes "1" ∷ []) 0 refl
 
 pub returns-clause-join : goal.returns-clause-join
 unfolding clap_on_literals

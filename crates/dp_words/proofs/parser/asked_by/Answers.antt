@@ -10,6 +10,11 @@ returns-in-play-clause-none c =
     none-of c.played.result c.args.name.now (codes "play") (rows_of (found_of c.args.given.now))
     c.in-play.is c.played.ensures.none
 
+pub returns-in-drill-clause-none : goal.returns-in-drill-clause-none
+returns-in-drill-clause-none c =
+    none-of c.drilled.result c.args.name.now (codes "drill") (rows_of (found_of c.args.given.now))
+    c.in-drill.is c.drilled.ensures.none
+
 pub returns-in-join-clause-none : goal.returns-in-join-clause-none
 returns-in-join-clause-none c =
     none-read c.joined.result c.args.name.now (codes "join") (rows_of (found_of c.args.given.now))

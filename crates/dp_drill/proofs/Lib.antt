@@ -1,0 +1,4 @@
+pub mod Follows
+pub mod RoundKinds
+pub mod Schedules
+pub mod Sums

@@ -1,0 +1,4 @@
+pub mod Flow
+pub mod Leaves
+pub mod Schedule
+pub mod Summary

@@ -1,0 +1,106 @@
+//! The history of a drill, drawn once.
+
+ghost use Rattle.std.specs.Prelude.{◌≡◌, ◌++◌, length, map, IfOk, OnOk};
+ghost use Rattle.dp_board.specs.Commands.{command_of, commands, drawn_commands};
+ghost use Rattle.dp_board.specs.Counts.{CountsFew};
+ghost use Rattle.dp_pixels.specs.Feet.{reach};
+ghost use Rattle.dp_plain.specs.Commands.{draw_all};
+ghost use Rattle.dp_replay.specs.Replay.{replay, undo_depth, user_act_of};
+
+use dp_board::{Act, Board, UserAct, drawn_flags, each_act_has_a_flag};
+use dp_canvas::Canvas;
+use dp_messages::Entry;
+use dp_msg_draw::Draw;
+use dp_replay::{UNDO_DEPTH, act_of};
+use dp_steps::Steps;
+use std::alloc::{AllocError, Global};
+use std::sync::ledger::Ledger;
+
+/// What the history shows. Each command that isn't undone is drawn once.
+///
+/// # Errors
+///
+/// Some of them were drawn, each once, and their tiles are counted.
+pub(crate) fn paint_history<D: Ledger, T: Ledger>(
+    alloc: Global,
+    entries: &[Entry],
+    draws: &mut Steps<D>,
+    tiles: &mut Steps<T>,
+) -> Result<Canvas, AllocError>
+    ensures canvas { IfOk result (λ canvas. canvas ≡ replay entries.now) }
+    ensures few { CountsFew reach (drawn_commands undo_depth (map user_act_of entries.now))
+        draws.old draws.new tiles.old tiles.new }
+{
+    let commands = drawn_commands(alloc, entries)?;
+    let mut canvas = Canvas::new(alloc);
+    draw_each(&mut canvas, &commands, draws, tiles)?;
+    Ok(canvas)
+}
+
+/// Draws the commands, one after the other.
+fn draw_each<D: Ledger, T: Ledger>(
+    canvas: &mut Canvas,
+    ops: &[Draw],
+    draws: &mut Steps<D>,
+    tiles: &mut Steps<T>,
+) -> Result<(), AllocError>
+    ensures board { OnOk result (canvas.new ≡ draw_all canvas.old ops.now) }
+    ensures few { CountsFew reach ops.now draws.old draws.new tiles.old tiles.new }
+{
+    for op in ops {
+        canvas.draw(op, draws, tiles)?;
+    }
+    Ok(())
+}
+
+/// The commands of a history that aren't undone, in its order.
+fn drawn_commands(alloc: Global, entries: &[Entry]) -> Result<Vec<Draw>, AllocError>
+    ensures { IfOk result (λ drawn. drawn.items
+        ≡ drawn_commands undo_depth (map user_act_of entries.now)) }
+{
+    each_act_has_a_flag::<Draw>();
+    let acts = acts_of(alloc, entries)?;
+    let flags = drawn_flags(alloc, UNDO_DEPTH, &acts)?;
+    flagged_commands(alloc, &acts, &flags)
+}
+
+/// What each entry does to strokes.
+fn acts_of(alloc: Global, entries: &[Entry]) -> Result<Vec<UserAct<Draw>>, AllocError>
+    ensures { IfOk result (λ acts. acts.items ≡ map user_act_of entries.now) }
+{
+    let mut acts = Vec::with_capacity(alloc, entries.len())?;
+    for entry in entries {
+        acts.push(UserAct {
+            user: entry.user,
+            act: act_of(entry)?,
+        })?;
+    }
+    Ok(acts)
+}
+
+/// The commands of the acts whose flags are true.
+fn flagged_commands(
+    alloc: Global,
+    acts: &[UserAct<Draw>],
+    flags: &[bool],
+) -> Result<Vec<Draw>, AllocError>
+    requires { length flags.now ≡ length acts.now }
+    ensures { IfOk result (λ drawn. drawn.items ≡ commands acts.now flags.now) }
+{
+    let mut drawn = Vec::new(alloc);
+    for (k, act) in acts.iter().enumerate() {
+        push_drawn(&mut drawn, &act.act, flags[k])?;
+    }
+    Ok(drawn)
+}
+
+/// Adds the command of an act, if it is one and its flag is true.
+fn push_drawn(drawn: &mut Vec<Draw>, act: &Act<Draw>, is_drawn: bool) -> Result<(), AllocError>
+    ensures { OnOk result (drawn.new.items ≡ drawn.old.items ++ command_of act.now is_drawn) }
+{
+    match act {
+        Act::Draw(command) if is_drawn => drawn.push(command.copy()?)?,
+        _ => {}
+    }
+    Ok(())
+}

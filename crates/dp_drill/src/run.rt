@@ -1,0 +1,92 @@
+//! Running a drill.
+
+ghost use Rattle.std.specs.Prelude.{◌≡◌, ◌≤◌, ℕ, IfOk};
+ghost use Rattle.dp_board.specs.Counts.{CountsFew};
+ghost use Rattle.dp_lines.specs.RunEnds.{FaultMatchesEnd};
+ghost use Rattle.dp_pixels.specs.Feet.{reach};
+ghost use Rattle.dp_script.specs.Counters.{counters};
+ghost use Rattle.dp_drill.specs.Leaves.{DrillLeaves};
+ghost use Rattle.dp_drill.specs.Summary.{drill_due, drill_history, drill_text};
+
+use crate::laws::drills_need_no_clients;
+use crate::painting::paint_history;
+use crate::rounds::{begin, play_rounds};
+use crate::summary::{summary, sums_of};
+use dp_epochs::Entries;
+use dp_io::{Failed, Sink, put_all};
+use dp_lines::RunEnd;
+use dp_steps::Steps;
+use std::alloc::{AllocError, Global};
+use std::sync::ledger::Ledger;
+
+/// A drill: the number that it is made from, and how many rounds it has.
+#[derive(Clone, Copy, Debug, PartialEq, Eq)]
+pub struct Drill {
+    pub seed: u64,
+    pub rounds: u32,
+}
+
+/// Makes the session of a drill, and writes its summary. Of its history each command that isn't
+/// undone is drawn once.
+///
+/// # Errors
+///
+/// It ends with `WriteFault` where the output failed, after a prefix of the summary, and with
+/// `Memory` where memory ran out: nothing was written.
+///
+/// The rule: docs/protocol.md, "Drills".
+pub fn run_drill<O: Sink, D: Ledger, T: Ledger>(
+    alloc: Global,
+    drill: Drill,
+    output: &mut O,
+    draws: &mut Steps<D>,
+    tiles: &mut Steps<T>,
+) -> RunEnd
+    ensures leaves { DrillLeaves drill.seed drill.rounds (O.held output.old) (O.held output.new)
+        (counters draws.old draws.new tiles.old tiles.new) result }
+    ensures fault { (n : ℕ)
+        → FaultMatchesEnd n n (O.faults output.old) (O.faults output.new) result }
+    ensures output_later { O.faults output.old ≤ O.faults output.new }
+{
+    let Ok(text) = drill_text(alloc, drill, draws, tiles) else {
+        return RunEnd::Memory;
+    };
+    match put_all(output, &text) {
+        Ok(()) => RunEnd::Done,
+        Err(Failed) => RunEnd::WriteFault,
+    }
+}
+
+/// What a drill prints.
+fn drill_text<D: Ledger, T: Ledger>(
+    alloc: Global,
+    drill: Drill,
+    draws: &mut Steps<D>,
+    tiles: &mut Steps<T>,
+) -> Result<Vec<u8>, AllocError>
+    ensures text { IfOk result (λ text. text.items ≡ drill_text drill.seed drill.rounds) }
+    ensures few { CountsFew reach (drill_due drill.seed drill.rounds)
+        draws.old draws.new tiles.old tiles.new }
+{
+    let entries = drill_history(alloc, drill)?;
+    let canvas = paint_history(alloc, entries.as_slice(), draws, tiles)?;
+    let sums = sums_of(&canvas);
+    summary(
+        alloc,
+        drill.seed,
+        drill.rounds,
+        entries.as_slice().len(),
+        sums,
+    )
+}
+
+/// The history that the session has after a drill.
+fn drill_history(alloc: Global, drill: Drill) -> Result<Entries, AllocError>
+    ensures { IfOk result (λ entries. entries ≡ drill_history drill.seed drill.rounds) }
+{
+    drills_need_no_clients();
+    let mut flow = begin(alloc)?;
+    play_rounds(alloc, &mut flow, drill.seed, drill.rounds)?;
+    flow.send_all()?;
+    flow.history()
+}

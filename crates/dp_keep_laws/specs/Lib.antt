@@ -1,0 +1,3 @@
+pub mod Suffixes
+pub mod Keeping
+pub mod Worked

@@ -1,0 +1,212 @@
+//! What is wrong with a link.
+
+ghost use Rattle.std.specs.Prelude.{◌≤◌, length};
+
+use crate::links::Coming;
+use crate::printing::put_numbered;
+use crate::tables::Table;
+use dp_lines::put_hex;
+use std::alloc::{AllocError, Global};
+
+/// What is wrong with a link, and at which of its frames or calls.
+#[derive(Clone, Copy)]
+pub enum Damage<'a> {
+    /// It ends after so many bytes.
+    Cut(usize),
+    /// A frame that may not stand there is in place of this one.
+    Lie(usize, &'a [u8]),
+    /// A frame that ends the link is in place of this one.
+    End(usize, &'a [u8]),
+    /// A painter's frame, of which this is placed, is in place of this one.
+    Instead(usize, &'a [u8], &'a [u8]),
+    /// The read of this number fails.
+    Read(usize),
+    /// The write of this number fails.
+    Write(usize),
+}
+
+/// The frames of a link.
+pub fn frames_of(alloc: Global, bytes: &[u8]) -> Result<Vec<&[u8]>, AllocError> {
+    let mut frames = Vec::new(alloc);
+    let mut rest = bytes;
+    for _ in 0..bytes.len() {
+        if rest.is_empty() {
+            break;
+        }
+        let (frame, after) = rest.split_at(frame_len(rest));
+        frames.push(frame)?;
+        rest = after;
+    }
+    Ok(frames)
+}
+
+/// How long the first frame is, as its head tells.
+fn frame_len(bytes: &[u8]) -> usize
+    ensures { result ≤ length bytes.now }
+{
+    let told = match bytes {
+        [high, low, ..] => usize::from(u16::from_be_bytes([*high, *low])),
+        _ => 0,
+    };
+    told.saturating_add(4).min(bytes.len())
+}
+
+/// How many frames are whole within so many bytes.
+pub fn whole_within(frames: &[&[u8]], bytes: usize) -> usize {
+    let mut left = bytes;
+    let mut count = 0usize;
+    for frame in frames {
+        if frame.len() > left {
+            break;
+        }
+        left = left.saturating_sub(frame.len());
+        count = count.saturating_add(1);
+    }
+    count
+}
+
+/// Where the frame of this number begins.
+pub fn place_of(frames: &[&[u8]], number: usize) -> usize {
+    let mut at = 0usize;
+    for frame in frames.iter().take(number) {
+        at = at.saturating_add(frame.len());
+    }
+    at
+}
+
+impl<'a> Damage<'a> {
+    /// The link with this damage, in pieces of this length.
+    pub fn done_to(
+        self,
+        alloc: Global,
+        link: &Coming,
+        frames: &[&[u8]],
+    ) -> Result<Coming, AllocError> {
+        let mut damaged = link.copy(alloc)?;
+        match self {
+            Damage::Cut(len) => damaged.bytes.truncate(len),
+            Damage::Lie(k, new) | Damage::End(k, new) | Damage::Instead(k, new, _) => {
+                damaged.bytes = replaced(alloc, frames, k, new)?;
+            }
+            Damage::Read(call) => damaged.reads.push(call as u64)?,
+            Damage::Write(call) => damaged.writes.push(call as u64)?,
+        }
+        Ok(damaged)
+    }
+
+    /// Adds its name.
+    pub fn put_name(self, out: &mut Vec<u8>) -> Result<(), AllocError> {
+        match self {
+            Damage::Cut(len) => put_numbered(b"cut ", len as u64, b"", out),
+            Damage::Read(call) => put_numbered(b"read ", call as u64, b"", out),
+            Damage::Write(call) => put_numbered(b"write ", call as u64, b"", out),
+            Damage::Lie(k, new) | Damage::End(k, new) | Damage::Instead(k, new, _) => {
+                put_numbered(b"frame ", k as u64, b" is ", out)?;
+                put_hex(new, out)
+            }
+        }
+    }
+}
+
+/// Frames, with this one in place of one.
+fn replaced(
+    alloc: Global,
+    frames: &[&[u8]],
+    number: usize,
+    new: &[u8],
+) -> Result<Vec<u8>, AllocError> {
+    let mut bytes = Vec::new(alloc);
+    for (k, frame) in frames.iter().enumerate() {
+        bytes.extend_from_slice(if k == number { new } else { *frame })?;
+    }
+    Ok(bytes)
+}
+
+/// The damages of a link of these frames in pieces of this length.
+pub fn damages_of<'a>(
+    alloc: Global,
+    table: &'a Table,
+    frames: &[&[u8]],
+    piece: usize,
+) -> Result<Vec<Damage<'a>>, AllocError> {
+    let len = place_of(frames, frames.len());
+    let mut damages = Vec::new(alloc);
+    for cut in 0..len.saturating_add(1) {
+        damages.push(Damage::Cut(cut))?;
+    }
+    put_frame_damages(table, frames, &mut damages)?;
+    put_call_damages(table, len, piece, &mut damages)?;
+    Ok(damages)
+}
+
+/// Adds the damages by frames in place of others.
+fn put_frame_damages<'a>(
+    table: &'a Table,
+    frames: &[&[u8]],
+    damages: &mut Vec<Damage<'a>>,
+) -> Result<(), AllocError> {
+    for (k, frame) in frames.iter().enumerate() {
+        put_lies(table, k, frame, damages)?;
+        put_ends(table, k, damages)?;
+        put_instead(table, k, damages)?;
+    }
+    Ok(())
+}
+
+fn put_lies<'a>(
+    table: &'a Table,
+    k: usize,
+    frame: &[u8],
+    damages: &mut Vec<Damage<'a>>,
+) -> Result<(), AllocError> {
+    for lie in &table.lies {
+        if lie.as_slice() != frame {
+            damages.push(Damage::Lie(k, lie))?;
+        }
+    }
+    Ok(())
+}
+
+fn put_ends<'a>(
+    table: &'a Table,
+    k: usize,
+    damages: &mut Vec<Damage<'a>>,
+) -> Result<(), AllocError> {
+    for end in &table.ends {
+        damages.push(Damage::End(k, end))?;
+    }
+    Ok(())
+}
+
+fn put_instead<'a>(
+    table: &'a Table,
+    k: usize,
+    damages: &mut Vec<Damage<'a>>,
+) -> Result<(), AllocError> {
+    for pair in table.instead.chunks(2) {
+        if let [new, placed] = pair {
+            damages.push(Damage::Instead(k, new, placed))?;
+        }
+    }
+    Ok(())
+}
+
+/// Adds the reads that fail in turn, as many as a link of this length takes and the one that finds
+/// its end, and the writes.
+fn put_call_damages<'a>(
+    table: &'a Table,
+    len: usize,
+    piece: usize,
+    damages: &mut Vec<Damage<'a>>,
+) -> Result<(), AllocError>
+    requires { 1 ≤ piece }
+{
+    for call in 0..len.div_ceil(piece).saturating_add(1) {
+        damages.push(Damage::Read(call.saturating_add(1)))?;
+    }
+    let writes = if piece == 1 { table.writes } else { 0 };
+    for call in 0..writes {
+        damages.push(Damage::Write((call as usize).saturating_add(1)))?;
+    }
+    Ok(())
+}

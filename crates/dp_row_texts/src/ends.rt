@@ -1,0 +1,188 @@
+//! The two ends of a row's link.
+
+ghost use Rattle.std.specs.Prelude.{◌≡◌, ◌≤◌, None, length};
+
+use crate::links::{Coming, Pause};
+use dp_io::{Failed, FaultPlan, MemSink, Sink, Source};
+use std::alloc::{AllocError, Global};
+use std::sync::Arc;
+use std::sync::atomic::{AtomicU64, Ordering};
+use std::thread;
+
+/// How many turns a pause waits.
+const TURNS: u64 = 5_000_000;
+
+/// How many bytes a link may be sent.
+const ROOM: usize = 20_000;
+
+/// How many bytes each link of a row was sent, and how many pauses were given up.
+#[derive(Drop)]
+pub struct Sent {
+    counts: Vec<AtomicU64>,
+    gave_up: AtomicU64,
+}
+
+impl Sent {
+    /// Nothing was sent so far on so many links.
+    pub fn new(alloc: Global, links: usize) -> Result<Arc<Sent>, AllocError> {
+        let mut counts = Vec::new(alloc);
+        for _ in 0..links {
+            counts.push(AtomicU64::new(0))?;
+        }
+        let gave_up = AtomicU64::new(0);
+        Ok(Arc::new(alloc, Sent { counts, gave_up })?)
+    }
+
+    /// How many pauses were given up.
+    pub fn gave_up(&self) -> u64 {
+        self.gave_up.load(Ordering::SeqCst)
+    }
+
+    /// Notes that a link was sent so many bytes so far.
+    fn note(&self, link: usize, sent: usize) {
+        if let Some(count) = self.counts.get(link) {
+            count.store(sent as u64, Ordering::SeqCst);
+        }
+    }
+
+    /// Whether the link of a pause was sent so many bytes.
+    fn is_over(&self, pause: Pause) -> bool {
+        match self.counts.get(pause.link) {
+            Some(count) => count.load(Ordering::SeqCst) >= pause.sent as u64,
+            None => false,
+        }
+    }
+
+    /// Lets others run until a pause is over, or gives it up.
+    fn wait(&self, pause: Pause) {
+        for _ in 0..TURNS {
+            if self.is_over(pause) {
+                return;
+            }
+            thread::yield_now();
+        }
+        self.gave_up.store(1, Ordering::SeqCst);
+    }
+}
+
+/// What the peer of a row's link sends. It tells none of its bytes.
+#[derive(Drop)]
+pub struct RowRx {
+    bytes: Vec<u8>,
+    at: usize,
+    piece: usize,
+    pauses: Vec<Pause>,
+    sent: Arc<Sent>,
+    plan: FaultPlan,
+}
+
+impl RowRx {
+    /// Waits for the pauses at its place.
+    fn pause(&self) {
+        for pause in &self.pauses {
+            if pause.at == self.at {
+                self.sent.wait(*pause);
+            }
+        }
+    }
+
+    /// Where the next pause is, or the end.
+    fn next_stop(&self) -> usize {
+        let mut stop = self.bytes.len();
+        for pause in &self.pauses {
+            if pause.at > self.at {
+                stop = stop.min(pause.at);
+            }
+        }
+        stop
+    }
+
+    /// The next bytes, at most so many, up to the next pause.
+    fn next_bytes(&self, most: usize) -> &[u8]
+        ensures { length result.now ≤ most }
+    {
+        let stop = self.next_stop().min(self.bytes.len());
+        let left = &self.bytes[self.at.min(stop)..stop];
+        let count = left.len().min(most);
+        &left[..count]
+    }
+}
+
+impl Source for RowRx {
+    ghost left = { λ _. None };
+
+    ghost faults = { λ s. s.plan.faults };
+
+    fn read(&mut self, buf: &mut [u8]) -> Result<usize, Failed> {
+        self.pause();
+        if self.plan.next_fails() {
+            return Err(self.plan.fail());
+        }
+        let most = buf.len().min(self.piece);
+        let bytes = self.next_bytes(most);
+        let count = bytes.len();
+        buf[..count].copy_from_slice(bytes);
+        self.at = self.at.saturating_add(count);
+        Ok(count)
+    }
+}
+
+/// What the peer of a row's link is sent.
+#[derive(Drop)]
+pub struct RowTx {
+    sink: MemSink,
+    link: usize,
+    sent: Arc<Sent>,
+}
+
+impl RowTx {
+    /// What it was sent.
+    pub fn as_slice(&self) -> &[u8] {
+        self.sink.as_slice()
+    }
+}
+
+impl Sink for RowTx {
+    ghost held = { λ _. None };
+
+    ghost faults = { λ s. s.sink.plan.faults };
+
+    fn write(&mut self, bytes: &[u8]) -> Result<usize, Failed> {
+        let answer = self.sink.write(bytes);
+        self.sent.note(self.link, self.sink.as_slice().len());
+        answer
+    }
+}
+
+/// The two ends of the link of this number, in pieces of this length.
+pub fn ends_of(
+    alloc: Global,
+    coming: Coming,
+    link: usize,
+    piece: usize,
+    sent: &Arc<Sent>,
+) -> Result<(RowRx, RowTx), AllocError>
+    requires { 1 ≤ piece }
+{
+    let Coming {
+        bytes,
+        pauses,
+        reads,
+        writes,
+    } = coming;
+    let rx = RowRx {
+        bytes,
+        at: 0,
+        piece,
+        pauses,
+        sent: sent.clone()?,
+        plan: FaultPlan::new(reads),
+    };
+    let sink = MemSink::new(alloc, ROOM, piece, writes)?;
+    let tx = RowTx {
+        sink,
+        link,
+        sent: sent.clone()?,
+    };
+    Ok((rx, tx))
+}

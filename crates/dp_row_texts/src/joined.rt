@@ -1,0 +1,105 @@
+//! What a client over a damaged link is to give.
+
+use crate::answer::Answer;
+use crate::damage::{Damage, place_of, whole_within};
+use crate::printing::put_numbered;
+use crate::tables::{Does, Step};
+use dp_lines::put_hex;
+use std::alloc::{AllocError, Global};
+
+/// How a run ends where a step wants more frames than came whole, and how many bytes are sent
+/// before a write fails.
+#[derive(Drop)]
+struct Limits {
+    whole: usize,
+    status: u8,
+    said: Vec<u8>,
+    sent: usize,
+}
+
+/// What the client gives that takes these steps over a link with this damage.
+pub fn client_answer(
+    alloc: Global,
+    steps: &[Step],
+    frames: &[&[u8]],
+    damage: Damage<'_>,
+    piece: usize,
+) -> Result<Answer, AllocError> {
+    let limits = limits_of(alloc, frames, damage, piece)?;
+    let mut answer = Answer::new(alloc);
+    let mut sent = Vec::new(alloc);
+    for step in steps {
+        if !take_step(step, &limits, &mut answer, &mut sent)? {
+            break;
+        }
+    }
+    answer.sent.extend_from_slice(b"\nsent ")?;
+    put_hex(&sent, &mut answer.sent)?;
+    Ok(answer)
+}
+
+/// Takes a step, and answers whether the client goes on.
+fn take_step(
+    step: &Step,
+    limits: &Limits,
+    answer: &mut Answer,
+    sent: &mut Vec<u8>,
+) -> Result<bool, AllocError> {
+    if step.wanted > limits.whole {
+        answer.status = limits.status;
+        answer.said.extend_from_slice(&limits.said)?;
+        return Ok(false);
+    }
+    match &step.does {
+        Does::Print(text) => answer.output.extend_from_slice(text)?,
+        Does::Send(bytes) => {
+            let room = limits.sent.saturating_sub(sent.len());
+            sent.extend_from_slice(&bytes[..room.min(bytes.len())])?;
+            if room < bytes.len() {
+                answer.status = 5;
+                answer.said.extend_from_slice(b"link fault\n")?;
+                return Ok(false);
+            }
+        }
+    }
+    Ok(true)
+}
+
+/// How far the link goes with this damage.
+fn limits_of(
+    alloc: Global,
+    frames: &[&[u8]],
+    damage: Damage<'_>,
+    piece: usize,
+) -> Result<Limits, AllocError> {
+    let all = frames.len();
+    let (whole, status, sent) = match damage {
+        Damage::Cut(len) => (whole_within(frames, len), 11, usize::MAX),
+        Damage::Lie(k, _) | Damage::Instead(k, _, _) => (k, 10, usize::MAX),
+        Damage::End(k, _) => (k, 11, usize::MAX),
+        Damage::Read(call) => (read_whole(frames, call, piece), 5, usize::MAX),
+        Damage::Write(call) => (all, 5, call.saturating_sub(1)),
+    };
+    let mut said = Vec::new(alloc);
+    match status {
+        10 => put_numbered(
+            b"bad message at ",
+            place_of(frames, whole) as u64,
+            b"\n",
+            &mut said,
+        )?,
+        11 => said.extend_from_slice(b"link closed\n")?,
+        _ => said.extend_from_slice(b"link fault\n")?,
+    }
+    Ok(Limits {
+        whole,
+        status,
+        said,
+        sent,
+    })
+}
+
+/// How many frames are whole before the read of this number.
+pub fn read_whole(frames: &[&[u8]], call: usize, piece: usize) -> usize {
+    whole_within(frames, call.saturating_sub(1).saturating_mul(piece))
+}

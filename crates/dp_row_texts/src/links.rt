@@ -1,0 +1,116 @@
+//! Links to come.
+
+use crate::names::{Names, read_word};
+use crate::reading::put_numbers;
+use std::alloc::{AllocError, Global};
+
+/// A pause of a link. Its bytes from this place on come once the link of this number, from 0 over
+/// all wires of the row, was sent so many bytes.
+#[derive(Clone, Copy)]
+pub struct Pause {
+    pub at: usize,
+    pub link: usize,
+    pub sent: usize,
+}
+
+/// A link to come: what its peer sends, with its pauses, and the reads and writes that fail.
+#[derive(Drop)]
+pub struct Coming {
+    pub bytes: Vec<u8>,
+    pub pauses: Vec<Pause>,
+    pub reads: Vec<u64>,
+    pub writes: Vec<u64>,
+}
+
+impl Coming {
+    /// A link of these bytes, with no pause, on which no call fails.
+    pub fn new(bytes: Vec<u8>) -> Coming {
+        let alloc = *bytes.allocator();
+        Coming {
+            bytes,
+            pauses: Vec::new(alloc),
+            reads: Vec::new(alloc),
+            writes: Vec::new(alloc),
+        }
+    }
+
+    /// An equal link.
+    pub fn copy(&self, alloc: Global) -> Result<Coming, AllocError> {
+        Ok(Coming {
+            bytes: Vec::from_slice(alloc, &self.bytes)?,
+            pauses: Vec::from_slice(alloc, &self.pauses)?,
+            reads: Vec::from_slice(alloc, &self.reads)?,
+            writes: Vec::from_slice(alloc, &self.writes)?,
+        })
+    }
+
+    /// Adds what a word says of the link, and answers whether it is a right one.
+    fn put_word(
+        &mut self,
+        alloc: Global,
+        names: &Names<'_>,
+        word: &str,
+    ) -> Result<bool, AllocError> {
+        if let Some(place) = word.strip_prefix('@') {
+            return self.put_pause(place);
+        }
+        match word.split_once('=') {
+            Some(("read", value)) => put_numbers(value, &mut self.reads),
+            Some(("write", value)) => put_numbers(value, &mut self.writes),
+            _ => self.put_bytes(alloc, names, word),
+        }
+    }
+
+    /// Adds a pause after the bytes so far.
+    fn put_pause(&mut self, place: &str) -> Result<bool, AllocError> {
+        let Some((link, sent)) = place.split_once(':') else {
+            return Ok(false);
+        };
+        let at = self.bytes.len();
+        match (link.parse::<usize>(), sent.parse::<usize>()) {
+            (Ok(link), Ok(sent)) => {
+                self.pauses.push(Pause { at, link, sent })?;
+                Ok(true)
+            }
+            _ => Ok(false),
+        }
+    }
+
+    /// Adds the bytes of a word of hexadecimal.
+    fn put_bytes(
+        &mut self,
+        alloc: Global,
+        names: &Names<'_>,
+        word: &str,
+    ) -> Result<bool, AllocError> {
+        let Some(part) = read_word(alloc, names, word)? else {
+            return Ok(false);
+        };
+        for _ in 0..part.times {
+            self.bytes.extend_from_slice(&part.bytes)?;
+        }
+        Ok(true)
+    }
+}
+
+/// Adds a link to the last wire, and answers whether its words are right.
+pub fn put_link(
+    alloc: Global,
+    names: &Names<'_>,
+    words: &str,
+    wires: &mut Vec<Vec<Coming>>,
+) -> Result<bool, AllocError> {
+    let mut link = Coming::new(Vec::new(alloc));
+    for word in words.split_whitespace() {
+        if !link.put_word(alloc, names, word)? {
+            return Ok(false);
+        }
+    }
+    match wires.last_mut() {
+        Some(links) => {
+            links.push(link)?;
+            Ok(true)
+        }
+        None => Ok(false),
+    }
+}

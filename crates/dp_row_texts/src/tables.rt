@@ -1,0 +1,126 @@
+//! Tables of damaged links.
+
+use crate::names::{Names, put_line, read_word};
+use std::alloc::{AllocError, Global};
+
+/// What a client over a link does next.
+#[derive(Drop)]
+pub enum Does {
+    Print(Vec<u8>),
+    Send(Vec<u8>),
+}
+
+/// A step of a client over a link, and how many frames of the link have come before.
+#[derive(Drop)]
+pub struct Step {
+    pub wanted: usize,
+    pub does: Does,
+}
+
+/// What is tried with the first link of a row, and what its frames are for.
+#[derive(Drop)]
+pub struct Table {
+    /// Frames that may stand nowhere, but the one that they equal.
+    pub lies: Vec<Vec<u8>>,
+    /// Frames that end a link.
+    pub ends: Vec<Vec<u8>>,
+    /// Frames of a painter, each with what a session places in their stead.
+    pub instead: Vec<Vec<u8>>,
+    /// How many writes fail in turn, in pieces of one byte.
+    pub writes: u64,
+    /// Of `join`: what the client does, in order.
+    pub steps: Vec<Step>,
+    /// Of `serve`: what the session places for each frame of each link, and then for its end.
+    pub placed: Vec<Vec<Vec<u8>>>,
+}
+
+impl Table {
+    /// A table in which nothing is tried.
+    pub fn new(alloc: Global) -> Table {
+        Table {
+            lies: Vec::new(alloc),
+            ends: Vec::new(alloc),
+            instead: Vec::new(alloc),
+            writes: 0,
+            steps: Vec::new(alloc),
+            placed: Vec::new(alloc),
+        }
+    }
+
+    /// Whether anything is to be tried.
+    pub fn is_empty(&self) -> bool {
+        self.steps.is_empty() && self.placed.is_empty()
+    }
+}
+
+/// Reads a line of a table, and answers whether it has the form of one.
+pub fn put_table_line(
+    alloc: Global,
+    names: &Names<'_>,
+    table: &mut Table,
+    line: &str,
+) -> Result<bool, AllocError> {
+    let (word, rest) = line.split_once(' ').unwrap_or((line, ""));
+    match word {
+        "lies" => put_frames(alloc, names, rest, &mut table.lies),
+        "ends" => put_frames(alloc, names, rest, &mut table.ends),
+        "instead" => put_frames(alloc, names, rest, &mut table.instead),
+        "placed" => {
+            let mut frames = Vec::new(alloc);
+            let right = put_frames(alloc, names, rest, &mut frames)?;
+            table.placed.push(frames)?;
+            Ok(right)
+        }
+        "writes" => {
+            table.writes = rest.parse::<u64>().unwrap_or(0);
+            Ok(table.writes > 0)
+        }
+        _ => put_step(alloc, names, word, rest, &mut table.steps),
+    }
+}
+
+/// Adds the bytes of each word of hexadecimal; `-` has none. It answers whether they are such.
+pub fn put_frames(
+    alloc: Global,
+    names: &Names<'_>,
+    words: &str,
+    out: &mut Vec<Vec<u8>>,
+) -> Result<bool, AllocError> {
+    for word in words.split_whitespace() {
+        if word == "-" {
+            out.push(Vec::new(alloc))?;
+            continue;
+        }
+        match read_word(alloc, names, word)? {
+            Some(part) => out.push(part.bytes)?,
+            None => return Ok(false),
+        }
+    }
+    Ok(true)
+}
+
+/// Adds a step that comes after so many frames: `x WORD` is sent, and another line is printed.
+fn put_step(
+    alloc: Global,
+    names: &Names<'_>,
+    wanted: &str,
+    line: &str,
+    steps: &mut Vec<Step>,
+) -> Result<bool, AllocError> {
+    let Ok(wanted) = wanted.parse::<usize>() else {
+        return Ok(false);
+    };
+    let does = match line.strip_prefix("x ") {
+        Some(word) => match read_word(alloc, names, word)? {
+            Some(part) => Does::Send(part.bytes),
+            None => return Ok(false),
+        },
+        None => {
+            let mut text = Vec::new(alloc);
+            put_line(names, line, &mut text)?;
+            Does::Print(text)
+        }
+    };
+    steps.push(Step { wanted, does })?;
+    Ok(true)
+}

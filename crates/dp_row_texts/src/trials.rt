@@ -1,0 +1,82 @@
+//! Trials of a row: runs over its links with damages of the first one.
+
+use crate::answer::Answer;
+use crate::damage::{Damage, damages_of, frames_of};
+use crate::joined::client_answer;
+use crate::links::Coming;
+use crate::row::Row;
+use crate::served::server_answer;
+use std::alloc::{AllocError, Global};
+
+/// A run over damaged links, and what it is to give.
+#[derive(Drop)]
+pub struct Trial {
+    pub name: Vec<u8>,
+    pub wires: Vec<Vec<Coming>>,
+    pub due: Answer,
+}
+
+/// The trials of a row in pieces of this length; there are none where it has no table or no link.
+pub fn trials_of(alloc: Global, row: &Row, piece: usize) -> Result<Vec<Trial>, AllocError> {
+    let mut trials = Vec::new(alloc);
+    let link = row.wires.first().and_then(|links| links.first());
+    let Some(link) = link else {
+        return Ok(trials);
+    };
+    if row.table.is_empty() {
+        return Ok(trials);
+    }
+    let frames = frames_of(alloc, &link.bytes)?;
+    for damage in &damages_of(alloc, &row.table, &frames, piece.max(1))? {
+        let damaged = damage.done_to(alloc, link, &frames)?;
+        trials.push(trial_of(alloc, row, damaged, &frames, *damage, piece.max(1))?)?;
+    }
+    Ok(trials)
+}
+
+/// The trial of a damage.
+fn trial_of<'a>(
+    alloc: Global,
+    row: &'a Row,
+    damaged: Coming,
+    frames: &[&'a [u8]],
+    damage: Damage<'a>,
+    piece: usize,
+) -> Result<Trial, AllocError> {
+    let mut wires = wires_with(alloc, &row.wires, damaged)?;
+    let mut name = Vec::new(alloc);
+    damage.put_name(&mut name)?;
+    let due = if row.table.placed.is_empty() {
+        client_answer(alloc, &row.table.steps, frames, damage, piece)?
+    } else {
+        server_answer(alloc, &row.table, frames, damage, piece, &mut wires)?
+    };
+    Ok(Trial { name, wires, due })
+}
+
+/// Copies of links, with this one in place of the first.
+fn wires_with(
+    alloc: Global,
+    wires: &[Vec<Coming>],
+    first: Coming,
+) -> Result<Vec<Vec<Coming>>, AllocError> {
+    let mut copies = Vec::new(alloc);
+    for links in wires {
+        copies.push(links_of(alloc, links)?)?;
+    }
+    if let Some(links) = copies.first_mut() {
+        if let Some(link) = links.first_mut() {
+            *link = first;
+        }
+    }
+    Ok(copies)
+}
+
+/// Copies of links.
+fn links_of(alloc: Global, links: &[Coming]) -> Result<Vec<Coming>, AllocError> {
+    let mut copies = Vec::new(alloc);
+    for link in links {
+        copies.push(link.copy(alloc)?)?;
+    }
+    Ok(copies)
+}

@@ -1,0 +1,166 @@
+//! The wires of a row.
+
+ghost use Rattle.std.specs.Prelude.{◌-◌, ◌≤◌, None, vec_len, vec_capacity};
+
+use crate::ends::{RowRx, RowTx, Sent, ends_of};
+use crate::links::Coming;
+use dp_io::FaultPlan;
+use dp_lines::put_hex;
+use dp_wire::{Wire, WireError};
+use std::alloc::{AllocError, Global};
+use std::collections::VecDeque;
+use std::sync::Arc;
+
+/// A wire that hands out the links of a row. It tells nothing of them.
+#[derive(Drop)]
+pub struct RowWire {
+    to_come: VecDeque<(RowRx, RowTx)>,
+    back: Vec<(RowRx, RowTx)>,
+    plan: FaultPlan,
+}
+
+impl RowWire {
+    /// A wire with these links to come, which fails at the calls of these numbers.
+    fn new(links: Vec<(RowRx, RowTx)>, fails: Vec<u64>) -> RowWire {
+        let alloc = *links.allocator();
+        RowWire {
+            to_come: VecDeque::from_vec(links),
+            back: Vec::new(alloc),
+            plan: FaultPlan::new(fails),
+        }
+    }
+}
+
+impl Wire for RowWire {
+    type Rx = RowRx;
+
+    type Tx = RowTx;
+
+    ghost links = { λ _. None };
+
+    ghost faults = { λ w. w.plan.faults };
+
+    ghost room = { λ w. vec_capacity w.back - vec_len w.back };
+
+    fn accept(&mut self) -> Result<Option<(RowRx, RowTx)>, WireError> {
+        if self.plan.next_fails() {
+            let _ = self.plan.fail();
+            return Err(WireError::Failed);
+        }
+        self.back.reserve(1)?;
+        Ok(self.to_come.pop_front())
+    }
+
+    fn dial(&mut self) -> Result<(RowRx, RowTx), WireError> {
+        if self.plan.next_fails() {
+            let _ = self.plan.fail();
+            return Err(WireError::Failed);
+        }
+        self.back.reserve(1)?;
+        match self.to_come.pop_front() {
+            Some(link) => Ok(link),
+            None => {
+                let _ = self.plan.fail();
+                Err(WireError::Failed)
+            }
+        }
+    }
+
+    fn done(&mut self, rx: RowRx, tx: RowTx) {
+        self.back.push_reserved((rx, tx));
+    }
+}
+
+/// The calls that fail of each wire, and of each of its links beside those of its own.
+#[derive(Drop)]
+pub struct LinkFails {
+    pub dials: Vec<u64>,
+    pub reads: Vec<u64>,
+    pub writes: Vec<u64>,
+}
+
+/// Wires, and what their links were sent.
+#[derive(Drop)]
+pub struct RowWires {
+    pub wires: Vec<RowWire>,
+    pub sent: Arc<Sent>,
+}
+
+/// The wires of these links, in pieces of this length, on which these calls fail.
+pub fn wires_of(
+    alloc: Global,
+    links: &[Vec<Coming>],
+    piece: usize,
+    fails: &LinkFails,
+) -> Result<RowWires, AllocError>
+    requires { 1 ≤ piece }
+{
+    let sent = Sent::new(alloc, count_of(links))?;
+    let mut wires = Vec::new(alloc);
+    let mut link = 0;
+    for coming in links {
+        let failing = failing(alloc, coming, fails)?;
+        let pairs = pairs_of(alloc, failing, link, piece, &sent)?;
+        link = link.saturating_add(coming.len());
+        wires.push(RowWire::new(pairs, Vec::from_slice(alloc, &fails.dials)?))?;
+    }
+    Ok(RowWires { wires, sent })
+}
+
+/// How many links there are.
+fn count_of(links: &[Vec<Coming>]) -> usize {
+    let mut count = 0usize;
+    for wire in links {
+        count = count.saturating_add(wire.len());
+    }
+    count
+}
+
+/// Copies of links on which these calls fail.
+fn failing(alloc: Global, links: &[Coming], fails: &LinkFails) -> Result<Vec<Coming>, AllocError> {
+    let mut copies = Vec::new(alloc);
+    for link in links {
+        let mut copy = link.copy(alloc)?;
+        copy.reads.extend_from_slice(&fails.reads)?;
+        copy.writes.extend_from_slice(&fails.writes)?;
+        copies.push(copy)?;
+    }
+    Ok(copies)
+}
+
+/// The ends of links, of which the first has this number.
+fn pairs_of(
+    alloc: Global,
+    links: Vec<Coming>,
+    first: usize,
+    piece: usize,
+    sent: &Arc<Sent>,
+) -> Result<Vec<(RowRx, RowTx)>, AllocError>
+    requires { 1 ≤ piece }
+{
+    let mut pairs = Vec::new(alloc);
+    let mut link = first;
+    for coming in links {
+        pairs.push(ends_of(alloc, coming, link, piece, sent)?)?;
+        link = link.saturating_add(1);
+    }
+    Ok(pairs)
+}
+
+/// What was sent on links that came back: a line for each, with its newline before it.
+pub fn sent_on(alloc: Global, wires: &[RowWire]) -> Result<Vec<u8>, AllocError> {
+    let mut text = Vec::new(alloc);
+    for wire in wires {
+        put_sent(wire, &mut text)?;
+    }
+    Ok(text)
+}
+
+/// Adds what was sent on links of a wire that came back.
+fn put_sent(wire: &RowWire, text: &mut Vec<u8>) -> Result<(), AllocError> {
+    for link in &wire.back {
+        text.extend_from_slice(b"\nsent ")?;
+        put_hex(link.1.as_slice(), text)?;
+    }
+    Ok(())
+}

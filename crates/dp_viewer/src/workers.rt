@@ -1,0 +1,105 @@
+//! The board of a recording, whose picture workers draw.
+
+ghost use Rattle.std.specs.Prelude.{◌≡◌, ℕ, ◌≤◌, List, [], ◌∷◌, ◌++◌, Option, OnOk};
+ghost use Rattle.dp_messages.specs.declared.message.Entry.{Entry as Item};
+ghost use Rattle.dp_viewer.specs.Reading.{AreDue, TrailsShown, WritesShown};
+ghost use Rattle.dp_viewer.specs.Ways.{first_of};
+
+use crate::reading::{ShownBoard, show_due};
+use dp_flat::{PictureEnd, write_p6_by};
+use dp_io::Sink;
+use dp_lines::RunEnd;
+use dp_messages::Entry;
+use dp_steps::Steps;
+use dp_wire::Gate;
+use std::alloc::{AllocError, Global};
+use std::sync::ledger::Ledger;
+use std::thread::Threads;
+
+/// Which entries of a recording are shown, and by how many workers.
+#[derive(Drop)]
+pub struct Playing<'a, G> {
+    /// How many of the first entries are shown, or all.
+    pub at: Option<u32>,
+    /// How many workers draw the picture, where 0 is 1.
+    pub workers: u32,
+    /// The gate that their jobs pass.
+    pub gate: &'a G,
+}
+
+/// A board that trails what a recording shows, how many entries are left to show, or all, and the
+/// workers that draw its picture.
+#[derive(Drop)]
+pub(crate) struct WorkersBoard<'a, R, G> {
+    pub board: ShownBoard,
+    pub due: Option<u32>,
+    rt: &'a R,
+    workers: u32,
+    gate: &'a G,
+}
+
+impl<'a, R: Threads + Sync, G: Gate> WorkersBoard<'a, R, G> {
+    /// A board of which so many entries are left to show, or all.
+    pub(crate) fn new(rt: &'a R, board: ShownBoard, playing: Playing<'a, G>) -> Self
+        ensures board { result.board ≡ board }
+        ensures due { result.due ≡ playing.at }
+    {
+        let Playing { at, workers, gate } = playing;
+        WorkersBoard {
+            board,
+            due: at,
+            rt,
+            workers,
+            gate,
+        }
+    }
+
+    /// Shows the next entry where it is one of the first so many, or of all.
+    #[inline(always)]
+    pub(crate) fn show<D: Ledger, T: Ledger>(
+        &mut self,
+        alloc: Global,
+        entry: Entry,
+        draws: &mut Steps<D>,
+        tiles: &mut Steps<T>,
+    ) -> Result<(), AllocError>
+        ensures shown { OnOk result ((at : Option ℕ) (all : List Item) → AreDue at all self.old.due
+            → TrailsShown self.old.board (first_of at all)
+            → TrailsShown self.new.board (first_of at (all ++ entry ∷ []))) }
+        ensures left { (at : Option ℕ) (all : List Item) → AreDue at all self.old.due
+            → AreDue at (all ++ entry ∷ []) self.new.due }
+    {
+        show_due(alloc, &mut self.board, &mut self.due, entry, draws, tiles)
+    }
+
+    /// Has the workers write the picture of what the board trails. Ends as given where it is
+    /// written.
+    pub(crate) fn write<O: Sink, D: Ledger, T: Ledger>(
+        self,
+        alloc: Global,
+        output: &mut O,
+        end: RunEnd,
+        draws: &mut Steps<D>,
+        tiles: &mut Steps<T>,
+    ) -> RunEnd
+        ensures shown { WritesShown (O.held output.old) (O.held output.new)
+            (O.faults output.old) (O.faults output.new) self.board end result }
+        ensures later { O.faults output.old ≤ O.faults output.new }
+    {
+        let WorkersBoard {
+            board,
+            rt,
+            workers,
+            gate,
+            ..
+        } = self;
+        let Ok(picture) = board.finish(draws, tiles) else {
+            return RunEnd::Memory;
+        };
+        match write_p6_by(rt, alloc, workers, gate, &picture, output) {
+            Ok(()) => end,
+            Err(PictureEnd::Failed) => RunEnd::WriteFault,
+            Err(PictureEnd::Memory) => RunEnd::Memory,
+        }
+    }
+}
