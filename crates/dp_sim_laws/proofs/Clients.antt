@@ -15,7 +15,7 @@ use Rattle.dp_snap.specs.Snapshot.{snapshot}
 use Rattle.dp_messages.specs.declared.message.Msg.{Msg}
 use Rattle.dp_messages.specs.declared.message.Msg.TheVariants as msg
 use Rattle.dp_messages.specs.declared.message.Entry.{Entry}
-use Rattle.dp_messages.specs.Properties.{is_disconnect, is_filtered, marked, carried_by}
+use Rattle.dp_messages.specs.Properties.{is_disconnect, is_filtered, carried_by}
 use Rattle.dp_messages.specs.Properties.{carried_in}
 use Rattle.dp_messages.specs.Equality.{same_message}
 use Rattle.dp_client.specs.Client as client

@@ -1,6 +1,6 @@
 -- What a client shows after a reset that keeps and was taken up: what the history before shows.
 use Rattle.std.proofs.Common.{◌≡◌, ℕ, ◌+◌, ◌-◌, true, List, ◌∷◌, ◌++◌, length, fold, take, Some}
-use Rattle.std.proofs.Common.{[], refl, sym, ap, subst, ◌∙◌, arith, append_assoc}
+use Rattle.std.proofs.Common.{[], sym, ap, subst, ◌∙◌, arith, append_assoc}
 use Rattle.std.specs.Prelude.{All, IfSome}
 use Rattle.std.proofs.lemmas.Bool.{cond_both}
 use Rattle.std.proofs.lemmas.List.{append-nil, take-append-le}
@@ -16,7 +16,7 @@ use Rattle.dp_client.specs.Client as client
 use Rattle.dp_epochs.specs.declared.connection.Ending.TheVariants as ending
 use Rattle.dp_epochs.specs.declared.event.Event.{Event}
 use Rattle.dp_epochs.specs.declared.event.Event.TheVariants as event
-use Rattle.dp_epochs.specs.State.{State, history_of, open_connection, with_connection, after_shut}
+use Rattle.dp_epochs.specs.State.{State, history_of, open_connection, with_connection}
 use Rattle.dp_epochs.specs.Rows.{has_room}
 use Rattle.dp_epochs.specs.Past.{Past, state_of, kept, refused, sure_step}
 use Rattle.dp_epochs.specs.Laws.{Continues, ShutBefore, shut_by}
@@ -29,7 +29,6 @@ use Rattle.dp_sim.specs.World.{World, participant_of, after, first_world, world_
 use Rattle.dp_sim.specs.Invariant.{IsWorld, IsParticipant}
 use Rattle.dp_sim.proofs.LawLemmas.{Leading}
 use Rattle.dp_lists.proofs.Options.{option_both, at_some, if_some}
-use Rattle.dp_keep_laws.specs.Keeping.{MayBeCut}
 use Rattle.dp_keep_laws.proofs.Kept.{OpeningsShowTheSame}
 use Rattle.dp_sim_laws.specs.Spelled.{SaysSpelled}
 use Rattle.dp_sim_laws.specs.Resets.{IsTakenUp, ShowsOn}

@@ -133,10 +133,10 @@ pub fn resets_show_the_senders_canvas()
     entries_are_taken();
 }
 
-/// Where a client's reset that keeps was taken up in the epoch in which it was sent, every client of
-/// the next epoch that has taken the opening whole shows what the history of the epoch before shows,
-/// with what it has taken more. The premise: that history may be cut at the place up to which the
-/// sender had taken it.
+/// If a client's reset that keeps was taken up in the epoch in which it was sent, every client of
+/// the next epoch shows what the history of the epoch before shows, with what it has taken more,
+/// once it has taken the opening whole. The premise: that history may be cut at the place up to
+/// which the sender had taken it.
 pub fn keeps_show_the_session()
     ensures { (before later : List Action) (number epoch : ℕ) (sender : Participant)
         → All SaysSpelled before → IsTakenUp before later number true sender epoch
