@@ -1,5 +1,5 @@
 -- In a session in which what is said has a spelling, so has each entry of each epoch.
-use Rattle.std.proofs.Common.{◌≡◌, ℕ, zero, suc, ◌+◌, ◌^◌, ◌<◌, ◌≤◌, ◌==◌, Bool, true, false}
+use Rattle.std.proofs.Common.{◌≡◌, ℕ, zero, suc, ◌+◌, ◌*◌, ◌^◌, ◌<◌, ◌≤◌, ◌==◌, Bool, true, false}
 use Rattle.std.proofs.Common.{nat_lt, not, ◌&&◌, if◌then◌else◌, List, [], ◌∷◌, ◌++◌, length}
 use Rattle.std.proofs.Common.{map, fold, drop}
 use Rattle.std.proofs.Common.{Option, None, Some, refl, sym, ap, subst, ◌∙◌, ⊎_elim, arith}
@@ -29,6 +29,7 @@ use Rattle.dp_acl.specs.Opening.{server_entry, goes_on, kept_from, part_limit, o
 use Rattle.dp_acl.specs.Laws.{SpelledIdsAreInOrder}
 use Rattle.dp_epochs.specs.declared.connection.Ending.TheVariants as ending
 use Rattle.dp_epochs.specs.declared.event.Event.{Event}
+use Rattle.dp_epochs.specs.declared.event.Event.TheVariants as event
 use Rattle.dp_epochs.specs.declared.event.ShutAt.{ShutAt}
 use Rattle.dp_epochs.specs.State.{State, Stream, first_state, noted, after_event, after_shut}
 use Rattle.dp_epochs.specs.State.{epoch_of, history_of, entry_of, is_name}
@@ -164,11 +165,11 @@ entries-spelled s e effect cause spelled = All-nil (λ (e : Entry). HasSpelling 
 -- ---- states
 
 -- a past of so many events has come to the state
-record Came (n : ℕ) (s : State) : Type 0 where
-  past : Past
-  before : ShutBefore past
-  is : state_of past ≡ s
-  many : length past.journal ≡ n
+pub record Came (n : ℕ) (s : State) : Type 0 where
+  pub past : Past
+  pub before : ShutBefore past
+  pub is : state_of past ≡ s
+  pub many : length past.journal ≡ n
 
 -- What is true of a state after so many events: the entries of its histories have a spelling, and
 -- so have the commands of the reset that is being sent, which aren't too many.
