@@ -359,12 +359,12 @@ in_band top col row in_cols =
     ) refl)
 
 -- the grid after the jobs of a band of rows
-pub band_done : (painted : Painted) (top : ℕ) (old now new : TileGrid) (made ran : List TileWork)
-    → IsGrid old → AreMade painted (top * 64) (top * 64 + 512) old now made
-    → length ran ≡ length made
-    → ((k : ℕ) (d : TileWork) → k < length made → IsRun (get_or made k d) (get_or ran k d))
+pub band_done : (painted : Painted) (top : ℕ) (old now new : TileGrid)
+    (made from ran : List TileWork) → from ≡ made → IsGrid old
+    → AreMade painted (top * 64) (top * 64 + 512) old now made → length ran ≡ length from
+    → ((k : ℕ) (d : TileWork) → k < length from → IsRun (get_or from k d) (get_or ran k d))
     → AreWritten ran now new → IsPaintedOn (band_at top) painted old new
-band_done painted top old now new made ran grid are as_many each written =
+band_done painted top old now new made from ran same grid are as_many each written =
     let now_cols = are.cols in
     let now_rows = are.rows in
     let wide = grid.cols in record {
@@ -373,7 +373,8 @@ band_done painted top old now new made ran grid are as_many each written =
       cells = λ col row in_cols in_rows.
           written.cells col row (omega (arith, in_cols, now_cols))
           (omega (arith, in_rows, now_rows))
-          ∙ ran_same made ran as_many each col row (cell_at now col row)
+          ∙ ran_same from ran as_many each col row (cell_at now col row)
+          ∙ ap (λ (jobs : List TileWork). work_at jobs col row (cell_at now col row)) same
           ∙ are.cells col row in_cols in_rows
           ∙ ap (λ t. cond t (painted col row (cell_at old col row)) (cell_at old col row))
           (in_band top col row (omega (arith, in_cols, wide)));
