@@ -192,19 +192,22 @@ rows_inside area (suc row) =
     let w = area.right - area.left in
     let at : suc row * 64 ≡ row * 64 + 64 = omega arith in
     let before = rows_inside area row in
-    rw at (⊎_elim (λ above.
+    let full : 64 ≤ 64 = omega arith in
+    rw at (⊎_elim (λ (above : row < area.top).
     let same : min (suc row) area.bottom - area.top ≡ min row area.bottom - area.top =
     omega (arith, above) in
-    rw same (omega (arith, before, out_of_rows area row (inl above) 64 (omega arith))))
-    (λ from. ⊎_elim (λ to.
+    let none = out_of_rows area row (inl above) 64 full in
+    rw same (omega (arith, before, none)))
+    (λ (from : area.top ≤ row). ⊎_elim (λ (to : row < area.bottom).
     let more : min (suc row) area.bottom - area.top ≡ min row area.bottom - area.top + 1 =
     omega (arith, from, to) in
-    rw (more, one_more_row (min row area.bottom - area.top) w)
-    (omega (arith, before, in_row area row 64 (omega arith))))
-    (λ below.
+    let some = in_row area row 64 full in
+    rw (more, one_more_row (min row area.bottom - area.top) w) (omega (arith, before, some)))
+    (λ (below : area.bottom ≤ row).
     let same : min (suc row) area.bottom - area.top ≡ min row area.bottom - area.top =
     omega (arith, below) in
-    rw same (omega (arith, before, out_of_rows area row (inr below) 64 (omega arith))))
+    let none = out_of_rows area row (inr below) 64 full in
+    rw same (omega (arith, before, none)))
     (cases_lt row area.bottom))
     (cases_lt row area.top))
 

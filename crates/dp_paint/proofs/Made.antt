@@ -1,10 +1,11 @@
 -- Tiles that are painted by jobs.
 use Rattle.std.proofs.Common.{◌≡◌, ℕ, zero, suc, ◌+◌, ◌-◌, ◌*◌, ◌/◌, ◌%◌, ◌<◌, ◌≤◌, List, [], ◌∷◌}
-use Rattle.std.proofs.Common.{◌++◌, length, get_or, take, ap, sym, ◌∙◌, refl, arith, ⊎_elim}
+use Rattle.std.proofs.Common.{◌++◌, length, get_or, take, drop, ap, sym, ◌∙◌, refl, arith, ⊎_elim}
 use Rattle.std.proofs.Common.{cond, true, false, ◌&&◌, leb, ltb, eqb, length-append}
 use Rattle.std.specs.Prelude.{All}
 use Rattle.std.proofs.lemmas.Bool.{and_parts, cases_eq, cond-false, cond-true, eq-eqb, eqb-true}
 use Rattle.std.proofs.lemmas.Bool.{false_from_ne_true, le-leb, leb-true, lt-ltb, ltb-true, ne_eqb}
+use Rattle.std.proofs.lemmas.List.{append-nil, drop_all, take_all}
 use Rattle.std.proofs.lemmas.List.Elements.{All-head, All-push, All-tail, All-weaker}
 use Rattle.dp_blend.specs.Color.{Channels, clear}
 use Rattle.dp_pixels.proofs.SpanLemmas.{same_test}
@@ -405,3 +406,12 @@ pub cell_long : (g : TileGrid) → IsGrid g → (col row : ℕ) → col < g.cols
     → length (cell_at g col row) ≡ 4096
 cell_long g is col row in_cols in_rows =
     is.pixels (row * g.cols + col) (tile_of clear) (place_inside g is col row in_cols in_rows)
+
+-- a list that was lent as a slice and came back
+pub lent_back : (old new : List TileWork) (len : ℕ) → length new ≡ length old
+    → len ≡ length old → take len (new ++ drop (length new) old) ≡ new
+lent_back old new len as_many is =
+    ap (λ (rest : List TileWork). take len (new ++ rest))
+    (drop_all (length new) old (omega (arith, as_many)))
+    ∙ ap (take len) (append-nil new)
+    ∙ take_all len new (omega (arith, as_many, is))
