@@ -1,12 +1,15 @@
 -- The pixels of a tile after a command.
-use Rattle.std.proofs.Common.{◌≡◌, ℕ, ◌+◌, ◌*◌, ◌<◌, List, length}
-use Rattle.std.specs.Prelude.{pos}
+use Rattle.std.proofs.Common.{◌≡◌, ℕ, ◌+◌, ◌*◌, ◌<◌, List, [], ◌∷◌, length, refl, ◌∙◌}
+use Rattle.std.specs.Prelude.{pos, slice_get, Some, None}
 use Rattle.dp_blend.specs.Color.{Channels}
 use Rattle.dp_blend.specs.Canvas.{pixel_at}
 use Rattle.dp_blend.proofs.Canvas.{is_canvas_of, pixel_at-canvas_of}
 use Rattle.dp_msg_draw.specs.declared.draw.Draw.{Draw}
 use Rattle.dp_pixels.specs.Commands.{pixel_drawn}
-use Rattle.dp_paint.specs.Painting.{tile_drawn}
+use Rattle.dp_paint.specs.declared.op.TileOp.TheVariants.{Command}
+use Rattle.dp_paint.specs.Ops.{on_tile, tile_after}
+use Rattle.dp_paint.specs.Painting.{length-tile_drawn, tile_drawn}
+use Rattle.dp_paint.proofs.Ops.{is_tile_after}
 
 module _ (width height : ℕ) (op : Draw) (col row : ℕ) (pixels : List Channels) where
   -- one of them
@@ -29,3 +32,25 @@ module _ (width height : ℕ) (op : Draw) (col row : ℕ) (pixels : List Channel
   is_tile_drawn new count each =
       is_canvas_of 64 64 (λ i j. pixel_drawn width height op (pos (col * 64 + i))
       (pos (row * 64 + j)) (pixel_at 64 pixels i j)) new count each
+
+-- ---- the command of a number
+
+module _ (width height : ℕ) (commands : List Draw) (number col row : ℕ) (pixels : List Channels)
+  where
+    -- a tile on which it was drawn
+    pub number_drawn : (op : Draw) → slice_get commands number ≡ Some op → length pixels ≡ 4096
+        → tile_drawn width height op col row pixels
+        ≡ tile_after (on_tile width height commands col row) (Command number ∷ []) pixels
+    number_drawn op is count =
+        is_tile_after (on_tile width height commands col row) (Command number ∷ []) pixels
+        (tile_drawn width height op col row pixels)
+        (length-tile_drawn width height op col row pixels)
+        (λ i j in_x in_y.
+        pixel-tile_drawn width height op col row pixels i j in_x in_y ∙ (rw is refl))
+
+    -- there is none
+    pub no_number : slice_get commands number ≡ None → length pixels ≡ 4096
+        → pixels ≡ tile_after (on_tile width height commands col row) (Command number ∷ []) pixels
+    no_number is count =
+        is_tile_after (on_tile width height commands col row) (Command number ∷ []) pixels pixels
+        count (λ i j in_x in_y. rw is refl)

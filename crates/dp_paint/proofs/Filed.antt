@@ -17,7 +17,7 @@ use Rattle.dp_pixels.specs.declared.dabs.PlacedDab.{PlacedDab}
 use Rattle.dp_pixels.specs.declared.dabs.Shape.{Shape}
 use Rattle.dp_pixels.specs.declared.dabs.Shape.TheVariants.{Round, Square}
 use Rattle.dp_pixels.specs.declared.rect.Rect.{Rect}
-use Rattle.dp_pixels.specs.Commands.{dab_blended, dabs_blended, pixel_after}
+use Rattle.dp_pixels.specs.Commands.{dab_blended, dabs_blended, pixel_drawn}
 use Rattle.dp_pixels.specs.Dabs.{dab_covers, dab_rect, is_in_disc}
 use Rattle.dp_pixels.specs.Rectangles.{is_in, rect_at}
 use Rattle.dp_pixels.proofs.Rectangles.{is_in-true, is_in_by}
@@ -26,7 +26,7 @@ use Rattle.dp_tile.specs.declared.area.CellArea.{CellArea}
 use Rattle.dp_tile.specs.Areas.{is_in_cells}
 use Rattle.dp_paint.specs.declared.op.TileFill.{TileFill}
 use Rattle.dp_paint.specs.declared.op.TileOp.{TileOp}
-use Rattle.dp_paint.specs.Ops.{is_in_fill, op_at, ops_at, tile_place}
+use Rattle.dp_paint.specs.Ops.{OnTile, is_in_fill, op_at, ops_at, tile_place}
 use Rattle.dp_paint.specs.Lists.{AddsMore, AllCount, HaveSame, HaveSameLists, IsChangedOn}
 use Rattle.dp_paint.specs.Lists.{IsFiled, IsFinished, IsInside, Lists, Waiting, list_at, listed_at}
 use Rattle.dp_paint.specs.declared.lists.Finish.TheVariants.{Drop, Keep}
@@ -226,71 +226,76 @@ module _ (dab : PlacedDab) (size : dab.size < 256) (col row i j : ℕ) (in_x : i
 -- ---- what was added
 
 -- the same change by other words
-pub adds_same : (area : CellArea) (f g : ℤ → ℤ → Channels → Channels) (old new : Lists)
-    → ((x y : ℤ) (p : Channels) → f x y p ≡ g x y p)
-    → IsChangedOn area (AddsMore f) old new → IsChangedOn area (AddsMore g) old new
-adds_same area f g old new same is = record {
+pub adds_same : (among : OnTile → Type 0) (area : CellArea) (f g : ℤ → ℤ → Channels → Channels)
+    (old new : Lists) → ((x y : ℤ) (p : Channels) → f x y p ≡ g x y p)
+    → IsChangedOn area (AddsMore among f) old new → IsChangedOn area (AddsMore among g) old new
+adds_same among area f g old new same is = record {
   first = is.first;
   len = is.len;
   inside = λ col row i.
       let both = is.inside col row i in (
         both.0,
-        λ a b p in_x in_y. both.1 a b p in_x in_y
+        λ t a b p at_col at_row is_in in_x in_y. both.1 t a b p at_col at_row is_in in_x in_y
             ∙ same (pos (col * 64 + a)) (pos (row * 64 + b))
-            (ops_at (list_at old col row).more a b p),
+            (ops_at t (list_at old col row).more a b p),
       );
   outside = is.outside;
 }
 
 -- a change that keeps each pixel
-pub adds_none : (area : CellArea) (f : ℤ → ℤ → Channels → Channels) (lists : Lists)
-    → ((x y : ℤ) (p : Channels) → f x y p ≡ p) → IsChangedOn area (AddsMore f) lists lists
-adds_none area f lists keeps = record {
+pub adds_none : (among : OnTile → Type 0) (area : CellArea) (f : ℤ → ℤ → Channels → Channels)
+    (lists : Lists) → ((x y : ℤ) (p : Channels) → f x y p ≡ p)
+    → IsChangedOn area (AddsMore among f) lists lists
+adds_none among area f lists keeps = record {
   first = refl;
   len = refl;
   inside = λ col row i. (
     refl,
-    λ a b p in_x in_y. sym (keeps (pos (col * 64 + a)) (pos (row * 64 + b))
-        (ops_at (list_at lists col row).more a b p)),
+    λ t a b p at_col at_row is_in in_x in_y. sym (keeps (pos (col * 64 + a)) (pos (row * 64 + b))
+        (ops_at t (list_at lists col row).more a b p)),
   );
   outside = λ col row few out. refl;
 }
 
 -- one change after another, which is added where it changes something
-pub adds_then : (area met : CellArea) (f g both : ℤ → ℤ → Channels → Channels)
+pub adds_then : (among : OnTile → Type 0) (area met : CellArea)
+    (f g both : ℤ → ℤ → Channels → Channels)
     (old now new : Lists)
     → ((col row : ℕ) → IsInside met col row → IsInside area col row) → area.right ≤ 64
     → ((col row i j : ℕ) (p : Channels) → IsInside area col row → (IsInside met col row → ⊥)
     → i < 64 → j < 64 → g (pos (col * 64 + i)) (pos (row * 64 + j)) p ≡ p)
     → ((x y : ℤ) (p : Channels) → both x y p ≡ g x y (f x y p))
-    → IsChangedOn area (AddsMore f) old now → IsChangedOn met (AddsMore g) now new
-    → IsChangedOn area (AddsMore both) old new
-adds_then area met f g both old now new within few keeps is before then = record {
+    → IsChangedOn area (AddsMore among f) old now → IsChangedOn met (AddsMore among g) now new
+    → IsChangedOn area (AddsMore among both) old new
+adds_then among area met f g both old now new within few keeps is before then = record {
   first = then.first ∙ before.first;
   len = then.len ∙ before.len;
   inside = λ col row i.
       let first = before.inside col row i in
-      ⊎_elim (λ t.
-      let more = then.inside col row (inside_facts met col row t) in (
+      ⊎_elim (λ here.
+      let more = then.inside col row (inside_facts met col row here) in (
         more.0 ∙ first.0,
-        λ a b p in_x in_y.
+        λ t a b p at_col at_row is_in in_x in_y.
             let x = pos (col * 64 + a) in
             let y = pos (row * 64 + b) in
-            more.1 a b p in_x in_y ∙ ap (g x y) (first.1 a b p in_x in_y)
-            ∙ sym (is x y (ops_at (list_at old col row).more a b p)),
+            more.1 t a b p at_col at_row is_in in_x in_y
+            ∙ ap (g x y) (first.1 t a b p at_col at_row is_in in_x in_y)
+            ∙ sym (is x y (ops_at t (list_at old col row).more a b p)),
       ))
-      (λ t.
-      let out : IsInside met col row → ⊥ = λ j. false≢true (sym t ∙ inside_by met col row j) in
+      (λ beside.
+      let out : IsInside met col row → ⊥ =
+      λ j. false≢true (sym beside ∙ inside_by met col row j) in
       let in_cols : col < 64 = omega (arith, i.right, few) in
       let stays = then.outside col row in_cols out in (
         ap (λ (w : Waiting). w.ops) stays ∙ first.0,
-        λ a b p in_x in_y.
+        λ t a b p at_col at_row is_in in_x in_y.
             let x = pos (col * 64 + a) in
             let y = pos (row * 64 + b) in
-            ap (λ (w : Waiting). ops_at w.more a b p) stays ∙ first.1 a b p in_x in_y
-            ∙ sym (keeps col row a b (f x y (ops_at (list_at old col row).more a b p)) i out in_x
+            ap (λ (w : Waiting). ops_at t w.more a b p) stays
+            ∙ first.1 t a b p at_col at_row is_in in_x in_y
+            ∙ sym (keeps col row a b (f x y (ops_at t (list_at old col row).more a b p)) i out in_x
             in_y)
-            ∙ sym (is x y (ops_at (list_at old col row).more a b p)),
+            ∙ sym (is x y (ops_at t (list_at old col row).more a b p)),
       ))
       (cases_Bool (is_in_cells met col row));
   outside = λ col row in_cols out.
@@ -326,15 +331,20 @@ dabs_next shape mode color items k d inside is x y p =
     p (take k placed) (d.dab ∷ [])
 
 -- what was added and kept was filed
-pub is_filed : (op : Draw) (area : CellArea) (old grown added kept : Lists) → area.right ≤ 64
+pub is_filed : (among : OnTile → Type 0) (op : Draw) (change : ℤ → ℤ → Channels → Channels)
+    (area : CellArea) (old grown added kept : Lists) → area.right ≤ 64
+    → ((t : OnTile) (x y : ℕ) (p : Channels) → among t → x < t.width → y < t.height
+    → change (pos x) (pos y) p ≡ pixel_drawn t.width t.height op (pos x) (pos y) p)
     → HaveSameLists old grown → AllCount old
-    → IsChangedOn area (AddsMore (pixel_after op)) grown added
+    → IsChangedOn area (AddsMore among change) grown added
     → IsChangedOn area (IsFinished Keep) added kept
-    → IsFiled op area old kept
-is_filed op area old grown added kept few same counts adds keeps = record {
-  inside = λ col row is i j p in_x in_y.
-      let x = pos (col * 64 + i) in
-      let y = pos (row * 64 + j) in
+    → IsFiled among op area old kept
+is_filed among op change area old grown added kept few draws same counts adds keeps = record {
+  inside = λ t is_in is i j p in_x in_y on_x on_y.
+      let col = t.col in
+      let row = t.row in
+      let x = col * 64 + i in
+      let y = row * 64 + j in
       let in_cols : col < 64 = omega (arith, is.right, few) in
       let more = adds.inside col row is in
       let w = list_at added col row in
@@ -342,11 +352,13 @@ is_filed op area old grown added kept few same counts adds keeps = record {
       ap (λ (l : Waiting). l.more) (same col row in_cols) ∙ counts col row in_cols in
       let ops : w.ops ≡ listed_at old col row =
       more.0 ∙ ap (λ (l : Waiting). l.ops) (same col row in_cols) in
-      ap (λ (l : Waiting). ops_at l.ops i j p) (keeps.inside col row is)
-      ∙ fold-append (λ (under : Channels) (o : TileOp). op_at o i j under) p w.ops w.more
-      ∙ more.1 i j (ops_at w.ops i j p) in_x in_y
-      ∙ ap (λ (l : List TileOp). pixel_after op x y (ops_at l i j (ops_at w.ops i j p))) none
-      ∙ ap (λ (l : List TileOp). pixel_after op x y (ops_at l i j p)) ops;
+      ap (λ (l : Waiting). ops_at t l.ops i j p) (keeps.inside col row is)
+      ∙ fold-append (λ (under : Channels) (o : TileOp). op_at t o i j under) p w.ops w.more
+      ∙ more.1 t i j (ops_at t w.ops i j p) refl refl is_in in_x in_y
+      ∙ ap (λ (l : List TileOp). change (pos x) (pos y) (ops_at t l i j (ops_at t w.ops i j p)))
+      none
+      ∙ ap (λ (l : List TileOp). change (pos x) (pos y) (ops_at t l i j p)) ops
+      ∙ draws t x y (ops_at t (listed_at old col row) i j p) is_in on_x on_y;
   outside = λ col row in_cols out.
       ap (λ (l : Waiting). l.ops) (keeps.outside col row in_cols out
       ∙ adds.outside col row in_cols out ∙ same col row in_cols);

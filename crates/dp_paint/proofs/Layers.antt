@@ -31,34 +31,39 @@ use Rattle.dp_paint.specs.declared.op.TileOp.{TileOp}
 use Rattle.dp_paint.specs.declared.lists.Finish.TheVariants.{Clear}
 use Rattle.dp_paint.specs.Painting.{IsGridOf, IsPainting}
 use Rattle.dp_paint.specs.Reading.{IsResized}
-use Rattle.dp_paint.specs.Ops.{MayWait, ops_at, tile_after}
+use Rattle.dp_paint.specs.Ops.{MayWait, OnTile, on_tile, ops_at, tile_after}
 use Rattle.dp_paint.specs.Lists.{HaveSame, IsChangedOn, IsFiled, IsFinished, IsInside, LayerOf}
 use Rattle.dp_paint.specs.Lists.{Lists, Waiting, layer_pixels, listed_at, no_list}
-use Rattle.dp_paint.specs.Lists.{waiting_pixel}
+use Rattle.dp_paint.specs.Lists.{anywhere, waiting_pixel}
 use Rattle.dp_paint.proofs.Ops.{pixel-tile_after}
 use Rattle.dp_paint.proofs.Painting.{StaysOutside, by_cells}
 use Rattle.dp_paint.proofs.Waits.{inside_by, inside_facts}
 
 -- ---- pixels
 
-module _ (width height : ℕ) (lists : Lists) (g : TileGrid) where
+module _ (width height : ℕ) (commands : List Draw) (lists : Lists) (g : TileGrid) where
   -- there is a pixel for each place
-  pub length-layer : length (layer_pixels width height lists g) ≡ width * height
-  length-layer = length-canvas_of width height (waiting_pixel lists g)
+  pub length-layer : length (layer_pixels width height commands lists g) ≡ width * height
+  length-layer = length-canvas_of width height (waiting_pixel width height commands lists g)
 
   -- one of them
   pub pixel-layer : (x y : ℕ) → x < width → y < height
-      → pixel_at width (layer_pixels width height lists g) x y ≡ waiting_pixel lists g x y
+      → pixel_at width (layer_pixels width height commands lists g) x y ≡ waiting_pixel width
+      height commands lists g x y
   pixel-layer x y in_x in_y =
-      pixel_at-canvas_of width height (waiting_pixel lists g) x y in_x in_y
+      pixel_at-canvas_of width height (waiting_pixel width height commands lists g) x y in_x in_y
 
 -- lists of the same operations make the same layer
-pub same_pixels : (width height : ℕ) (old new : Lists) (g : TileGrid) → width ≤ 4096
-    → HaveSame old new → layer_pixels width height new g ≡ layer_pixels width height old g
-same_pixels width height old new g wide same =
-    canvas_of-same width height (waiting_pixel new g) (waiting_pixel old g)
+pub same_pixels : (width height : ℕ) (commands : List Draw) (old new : Lists) (g : TileGrid) →
+    width ≤ 4096
+    → HaveSame old new → layer_pixels width height commands new g ≡ layer_pixels width height
+    commands old g
+same_pixels width height commands old new g wide same =
+    canvas_of-same width height (waiting_pixel width height commands new g)
+    (waiting_pixel width height commands old g)
     (λ x y in_x in_y.
-    ap (λ (ops : List TileOp). ops_at ops (x % 64) (y % 64) (grid_pixel g x y))
+    ap (λ (ops : List TileOp). ops_at (on_tile width height commands (x / 64) (y / 64)) ops
+    (x % 64) (y % 64) (grid_pixel g x y))
     (same (x / 64) (y / 64) (omega (arith, in_x, wide))))
 
 -- nothing waits where there is no list
@@ -70,12 +75,14 @@ nothing lists none col row = rw none (either (leb lists.first row))
     either false = refl
 
 -- a layer on which nothing waits
-pub no_lists : (width height : ℕ) (lists : Lists) (g : TileGrid) → lists.lists ≡ []
-    → layer_pixels width height lists g ≡ grid_pixels width height g
-no_lists width height lists g none =
-    canvas_of-same width height (waiting_pixel lists g) (grid_pixel g)
+pub no_lists : (width height : ℕ) (commands : List Draw) (lists : Lists) (g : TileGrid) →
+    lists.lists ≡ []
+    → layer_pixels width height commands lists g ≡ grid_pixels width height g
+no_lists width height commands lists g none =
+    canvas_of-same width height (waiting_pixel width height commands lists g) (grid_pixel g)
     (λ x y in_x in_y.
-    ap (λ (ops : List TileOp). ops_at ops (x % 64) (y % 64) (grid_pixel g x y))
+    ap (λ (ops : List TileOp). ops_at (on_tile width height commands (x / 64) (y / 64)) ops
+    (x % 64) (y % 64) (grid_pixel g x y))
     (nothing lists none (x / 64) (y / 64)))
 
 -- ---- tiles that are read
@@ -115,19 +122,23 @@ shows_grid width height g col row color pixels is =
     rw (at_col, at_row, at_i, at_j) refl)
 
 -- and after what waits on it the layer
-pub shows_tile : (width height : ℕ) (lists : Lists) (g : TileGrid) (col row : ℕ)
+pub shows_tile : (width height : ℕ) (commands : List Draw) (lists : Lists) (g : TileGrid)
+    (col row : ℕ)
     (color : Option Channels) (pixels : List Channels)
-    → tile_pixels color pixels ≡ tile_after (listed_at lists col row) (cell_at g col row)
-    → ShowsTile width height (layer_pixels width height lists g) col row color pixels
-shows_tile width height lists g col row color pixels is =
-    shows_cell width height (waiting_pixel lists g) col row color pixels
-    (tile_after (listed_at lists col row) (cell_at g col row)) is
+    → tile_pixels color pixels ≡ tile_after (on_tile width height commands col row)
+    (listed_at lists col row) (cell_at g col row)
+    → ShowsTile width height (layer_pixels width height commands lists g) col row color pixels
+shows_tile width height commands lists g col row color pixels is =
+    shows_cell width height (waiting_pixel width height commands lists g) col row color pixels
+    (tile_after (on_tile width height commands col row) (listed_at lists col row)
+    (cell_at g col row)) is
     (λ i j in_x in_y.
     let at_col : (col * 64 + i) / 64 ≡ col = omega (arith, in_x) in
     let at_row : (row * 64 + j) / 64 ≡ row = omega (arith, in_y) in
     let at_i : (col * 64 + i) % 64 ≡ i = omega (arith, in_x) in
     let at_j : (row * 64 + j) % 64 ≡ j = omega (arith, in_y) in
-    pixel-tile_after (listed_at lists col row) (cell_at g col row) i j in_x in_y
+    pixel-tile_after (on_tile width height commands col row) (listed_at lists col row)
+    (cell_at g col row) i j in_x in_y
     ∙ (rw (at_col, at_row, at_i, at_j) refl))
 
 -- a tile that was read has the pixels of its cell
@@ -140,37 +151,42 @@ read_cell None pixels cell some none = none
 -- ---- layers
 
 -- the layer of a grid and of what waits
-abbrev pub layer_of : ℕ → ℕ → Lists → TileGrid → LayerOf
-layer_of width height lists g =
-    record { width = width; height = height; pixels = layer_pixels width height lists g }
+abbrev pub layer_of : ℕ → ℕ → List Draw → Lists → TileGrid → LayerOf
+layer_of width height commands lists g =
+    record { width = width; height = height; pixels = layer_pixels width height commands lists g }
 
 -- the tile at a column and a row, after what waits on it, shows the layer
-pub shows_layer : (layer : LayerOf) (width height : ℕ) (lists : Lists)
+pub shows_layer : (layer : LayerOf) (width height : ℕ) (commands : List Draw) (lists : Lists)
     (g : TileGrid) (col row : ℕ) (ops : List TileOp) (color : Option Channels)
-    (pixels : List Channels) → layer_of width height lists g ≡ layer
+    (pixels : List Channels) → layer_of width height commands lists g ≡ layer
     → ops ≡ listed_at lists col row
-    → tile_pixels color pixels ≡ tile_after ops (cell_at g col row)
+    → tile_pixels color pixels ≡ tile_after (on_tile width height commands col row) ops
+    (cell_at g col row)
     → ShowsTile layer.width layer.height layer.pixels col row color pixels
-shows_layer layer width height lists g col row ops color pixels view all is =
+shows_layer layer width height commands lists g col row ops color pixels view all is =
     subst (λ (l : LayerOf). ShowsTile l.width l.height l.pixels col row color pixels) view
-    (shows_tile width height lists g col row color pixels
-    (is ∙ ap (λ (l : List TileOp). tile_after l (cell_at g col row)) all))
+    (shows_tile width height commands lists g col row color pixels
+    (is ∙ ap (λ (l : List TileOp). tile_after (on_tile width height commands col row) l
+    (cell_at g col row)) all))
 
 -- the pixel at a place of a layer: the grid's, after all that waits on its tile
-pub pixel_of_layer : (layer : LayerOf) (width height : ℕ) (lists : Lists)
+pub pixel_of_layer : (layer : LayerOf) (width height : ℕ) (commands : List Draw) (lists : Lists)
     (g : TileGrid) (ops : List TileOp) (k x y : ℕ) (start p : Channels)
-    → layer_of width height lists g ≡ layer → ops ≡ listed_at lists (x / 64) (y / 64)
+    → layer_of width height commands lists g ≡ layer → ops ≡ listed_at lists (x / 64) (y / 64)
     → length ops ≤ k → start ≡ grid_pixel g x y
-    → p ≡ ops_at (take k ops) (x % 64) (y % 64) start
+    → p ≡ ops_at (on_tile width height commands (x / 64) (y / 64)) (take k ops) (x % 64) (y % 64)
+    start
     → x < layer.width → y < layer.height → p ≡ pixel_at layer.width layer.pixels x y
-pixel_of_layer layer width height lists g ops k x y start p view all end first is =
+pixel_of_layer layer width height commands lists g ops k x y start p view all end first is =
     subst (λ (l : LayerOf). x < l.width → y < l.height → p ≡ pixel_at l.width l.pixels x y) view
     (λ in_x in_y.
     is
-    ∙ ap (λ (l : List TileOp). ops_at l (x % 64) (y % 64) start)
+    ∙ ap (λ (l : List TileOp). ops_at (on_tile width height commands (x / 64) (y / 64)) l (x % 64)
+    (y % 64) start)
     (take_all k ops end ∙ all)
-    ∙ ap (ops_at (listed_at lists (x / 64) (y / 64)) (x % 64) (y % 64)) first
-    ∙ sym (pixel-layer width height lists g x y in_x in_y))
+    ∙ ap (ops_at (on_tile width height commands (x / 64) (y / 64))
+    (listed_at lists (x / 64) (y / 64)) (x % 64) (y % 64)) first
+    ∙ sym (pixel-layer width height commands lists g x y in_x in_y))
 
 -- what follows from what is known of the value in a `Some`
 pub some_then : {X : Type 0} (o : Option X) (P Q : X → Type 0) → ForSome o P
@@ -206,27 +222,29 @@ pub known_none : {X : Type 0} (xs : List X) (empty : Bool) → empty ≡ (length
 known_none xs empty is told = nil_from_length xs (eqb-true (length xs) 0 (sym is ∙ told))
 
 -- the layer of other lists and another grid with the same pixels
-pub same_layer : (layer : LayerOf) (width height : ℕ) (old new : Lists) (g h : TileGrid)
-    → layer_of width height old g ≡ layer
-    → layer_pixels width height new h ≡ layer_pixels width height old g
-    → layer_of width height new h ≡ layer
-same_layer layer width height old new g h view same =
+pub same_layer : (layer : LayerOf) (width height : ℕ) (commands : List Draw) (old new : Lists)
+    (g h : TileGrid)
+    → layer_of width height commands old g ≡ layer
+    → layer_pixels width height commands new h ≡ layer_pixels width height commands old g
+    → layer_of width height commands new h ≡ layer
+same_layer layer width height commands old new g h view same =
     ap (λ (ps : List Channels). record { width = width; height = height; pixels = ps }) same
     ∙ view
 
 -- the layer of pixels that a command made
-pub layer_after : (layer : LayerOf) (width height : ℕ) (op : Draw) (old new : Lists)
-    (g h : TileGrid) → layer_of width height old g ≡ layer
-    → layer_pixels width height new h
-    ≡ pixels_after width height op (layer_pixels width height old g)
-    → layer_of width height new h
+pub layer_after : (layer : LayerOf) (width height : ℕ) (commands : List Draw) (op : Draw)
+    (old new : Lists)
+    (g h : TileGrid) → layer_of width height commands old g ≡ layer
+    → layer_pixels width height commands new h
+    ≡ pixels_after width height op (layer_pixels width height commands old g)
+    → layer_of width height commands new h
     ≡ record {
       width = layer.width;
       height = layer.height;
       pixels = pixels_after layer.width layer.height op layer.pixels;
     }
-layer_after layer width height op old new g h view is =
-    subst (λ (l : LayerOf). layer_of width height new h
+layer_after layer width height commands op old new g h view is =
+    subst (λ (l : LayerOf). layer_of width height commands new h
     ≡ record {
       width = l.width;
       height = l.height;
@@ -241,13 +259,14 @@ place_below cols rows col row in_cols in_rows =
     omega (arith, in_cols, mul-le-mul_left cols next)
 
 -- the layer of a grid that shows nothing
-pub blank_layer : (width height : ℕ) (lists : Lists) (g : TileGrid) → lists.lists ≡ []
+pub blank_layer : (width height : ℕ) (commands : List Draw) (lists : Lists) (g : TileGrid) →
+    lists.lists ≡ []
     → g ≡ clear_grid (tiles_along width) (tiles_along height)
-    → layer_of width height lists g
+    → layer_of width height commands lists g
     ≡ record { width = width; height = height; pixels = canvas_of width height (λ x y. clear) }
-blank_layer width height lists g none is =
+blank_layer width height commands lists g none is =
     ap (λ (ps : List Channels). record { width = width; height = height; pixels = ps })
-    (no_lists width height lists g none ∙ ap (grid_pixels width height) is
+    (no_lists width height commands lists g none ∙ ap (grid_pixels width height) is
     ∙ canvas_of-same width height
     (grid_pixel (clear_grid (tiles_along width) (tiles_along height))) (λ x y. clear)
     (λ x y in_x in_y.
@@ -259,7 +278,7 @@ blank_layer width height lists g none is =
     ∙ pixel-tile_of clear (y % 64 * 64 + x % 64) (omega arith)))
 
 -- a fill or dabs, on the canvas
-waits_drawn : (width height : ℕ) (op : Draw) (x y : ℤ) (p : Channels) → MayWait op
+pub waits_drawn : (width height : ℕ) (op : Draw) (x y : ℤ) (p : Channels) → MayWait op
     → is_in (canvas_rect width height) x y ≡ true
     → pixel_after op x y p ≡ pixel_drawn width height op x y p
 waits_drawn width height (draws.FillRect layer mode a b w h color) x y p may t = rw t refl
@@ -285,45 +304,51 @@ on_canvas_at width height x y in_x in_y =
     })
 
 -- the layer on whose tiles a command more waits
-pub filed_layer : (width height : ℕ) (op : Draw) → StaysOutside → MayWait op
+pub filed_layer : (width height : ℕ) (commands : List Draw) (among : OnTile → Type 0) (op : Draw)
+    → StaysOutside → IsPainting op → ((col row : ℕ) → among (on_tile width height commands col row))
     → (area : CellArea) (old new : Lists) (g : TileGrid) → width ≤ 4096 → height ≤ 4096
     → ((x y : ℕ) → x < width → y < height → is_in_foot (foot op) (pos x) (pos y) ≡ true
     → is_in_cells area (x / 64) (y / 64) ≡ true)
-    → IsFiled op area old new
-    → layer_pixels width height new g
-    ≡ pixels_after width height op (layer_pixels width height old g)
-filed_layer width height op law may area old new g wide high covers filed =
-    by_cells width height op (waits_paint op may) law wide high area (waiting_pixel old g)
-    (waiting_pixel new g) covers
+    → IsFiled among op area old new
+    → layer_pixels width height commands new g
+    ≡ pixels_after width height op (layer_pixels width height commands old g)
+filed_layer width height commands among op law is on area old new g wide high covers filed =
+    by_cells width height op is law wide high area (waiting_pixel width height commands old g)
+    (waiting_pixel width height commands new g) covers
     (λ x y in_x in_y t.
     let col = x / 64 in
     let row = y / 64 in
     let at_x : col * 64 + x % 64 ≡ x = omega arith in
     let at_y : row * 64 + y % 64 ≡ y = omega arith in
-    filed.inside col row (inside_facts area col row t) (x % 64) (y % 64) (grid_pixel g x y)
-    (omega arith) (omega arith)
-    ∙ (rw (at_x, at_y) (waits_drawn width height op (pos x) (pos y) (waiting_pixel old g x y) may
-    (on_canvas_at width height x y in_x in_y))))
+    filed.inside (on_tile width height commands col row) (on col row) (inside_facts area col row t)
+    (x % 64) (y % 64) (grid_pixel g x y) (omega arith) (omega arith) (omega (arith, in_x))
+    (omega (arith, in_y))
+    ∙ (rw (at_x, at_y) refl))
     (λ x y in_x in_y t.
-    ap (λ (ops : List TileOp). ops_at ops (x % 64) (y % 64) (grid_pixel g x y))
+    ap (λ (ops : List TileOp). ops_at (on_tile width height commands (x / 64) (y / 64)) ops
+    (x % 64) (y % 64) (grid_pixel g x y))
     (filed.outside (x / 64) (y / 64) (omega (arith, in_x, wide))
     (λ i. false≢true (sym t ∙ inside_by area (x / 64) (y / 64) i))))
 
 -- the pixel of a grid of which an area was painted by what waits
-module _ (width height : ℕ) (area : CellArea) (lists : Lists) (old new : TileGrid)
+module _ (width height : ℕ) (commands : List Draw) (area : CellArea) (lists : Lists)
+    (old new : TileGrid)
     (is_of : IsGridOf width height old)
-    (painted : IsPaintedOn area (λ col row. tile_after (listed_at lists col row)) old new)
+    (painted : IsPaintedOn area (λ col row. tile_after (on_tile width height commands col row)
+    (listed_at lists col row)) old new)
     (x y : ℕ) (in_x : x < width) (in_y : y < height) where
   pub painted_in : is_in_cells area (x / 64) (y / 64) ≡ true
-      → grid_pixel new x y ≡ waiting_pixel lists old x y
+      → grid_pixel new x y ≡ waiting_pixel width height commands lists old x y
   painted_in t =
       let col = x / 64 in
       let row = y / 64 in
       ap (λ pixels. pixel_at 64 pixels (x % 64) (y % 64))
       (painted.cells col row (omega (arith, is_of.cols, in_x)) (omega (arith, is_of.rows, in_y))
       ∙ cond-true (is_in_cells area col row)
-      (tile_after (listed_at lists col row) (cell_at old col row)) (cell_at old col row) t)
-      ∙ pixel-tile_after (listed_at lists col row) (cell_at old col row) (x % 64) (y % 64)
+      (tile_after (on_tile width height commands col row) (listed_at lists col row)
+      (cell_at old col row)) (cell_at old col row) t)
+      ∙ pixel-tile_after (on_tile width height commands col row) (listed_at lists col row)
+      (cell_at old col row) (x % 64) (y % 64)
       (omega arith) (omega arith)
 
   pub painted_out : is_in_cells area (x / 64) (y / 64) ≡ false
@@ -334,40 +359,50 @@ module _ (width height : ℕ) (area : CellArea) (lists : Lists) (old new : TileG
       ap (λ pixels. pixel_at 64 pixels (x % 64) (y % 64))
       (painted.cells col row (omega (arith, is_of.cols, in_x)) (omega (arith, is_of.rows, in_y))
       ∙ cond-false (is_in_cells area col row)
-      (tile_after (listed_at lists col row) (cell_at old col row)) (cell_at old col row) t)
+      (tile_after (on_tile width height commands col row) (listed_at lists col row)
+      (cell_at old col row)) (cell_at old col row) t)
 
 -- a layer of which an area was painted, and on which nothing waits there any more
-pub settled : (width height : ℕ) (area : CellArea) (before after : Lists) (old new : TileGrid)
+pub settled : (width height : ℕ) (commands : List Draw) (area : CellArea) (before after : Lists)
+    (old new : TileGrid)
     → IsGridOf width height old
-    → IsPaintedOn area (λ col row. tile_after (listed_at before col row)) old new
+    → IsPaintedOn area (λ col row. tile_after (on_tile width height commands col row)
+    (listed_at before col row)) old new
     → IsChangedOn area (IsFinished Clear) before after
-    → layer_pixels width height after new ≡ layer_pixels width height before old
-settled width height area before after old new is_of painted cleared =
-    canvas_of-same width height (waiting_pixel after new) (waiting_pixel before old)
+    → layer_pixels width height commands after new ≡ layer_pixels width height commands before old
+settled width height commands area before after old new is_of painted cleared =
+    canvas_of-same width height (waiting_pixel width height commands after new)
+    (waiting_pixel width height commands before old)
     (λ x y in_x in_y.
     let col = x / 64 in
     let row = y / 64 in
     ⊎_elim (λ t.
-    ap (λ (l : Waiting). ops_at l.ops (x % 64) (y % 64) (grid_pixel new x y))
+    ap (λ (l : Waiting). ops_at (on_tile width height commands (x / 64) (y / 64)) l.ops (x % 64)
+    (y % 64) (grid_pixel new x y))
     (cleared.inside col row (inside_facts area col row t))
-    ∙ painted_in width height area before old new is_of painted x y in_x in_y t)
+    ∙ painted_in width height commands area before old new is_of painted x y in_x in_y t)
     (λ t.
-    ap (λ (l : Waiting). ops_at l.ops (x % 64) (y % 64) (grid_pixel new x y))
+    ap (λ (l : Waiting). ops_at (on_tile width height commands (x / 64) (y / 64)) l.ops (x % 64)
+    (y % 64) (grid_pixel new x y))
     (cleared.outside col row (omega (arith, in_x, is_of.wide))
     (λ i. false≢true (sym t ∙ inside_by area col row i)))
-    ∙ ap (ops_at (listed_at before col row) (x % 64) (y % 64))
-    (painted_out width height area before old new is_of painted x y in_x in_y t))
+    ∙ ap (ops_at (on_tile width height commands (x / 64) (y / 64)) (listed_at before col row)
+    (x % 64) (y % 64))
+    (painted_out width height commands area before old new is_of painted x y in_x in_y t))
     (cases_Bool (is_in_cells area col row)))
 
 -- a grid all of whose cells were painted
-pub all_painted : (width height : ℕ) (area : CellArea) (lists : Lists) (old new : TileGrid)
+pub all_painted : (width height : ℕ) (commands : List Draw) (area : CellArea) (lists : Lists)
+    (old new : TileGrid)
     → IsGridOf width height old → area.left ≡ 0 → area.right ≡ old.cols → area.top ≡ 0
     → area.bottom ≡ old.rows
-    → IsPaintedOn area (λ col row. tile_after (listed_at lists col row)) old new
-    → grid_pixels width height new ≡ layer_pixels width height lists old
-all_painted width height area lists old new is_of left right top bottom painted =
-    canvas_of-same width height (grid_pixel new) (waiting_pixel lists old)
-    (λ x y in_x in_y. painted_in width height area lists old new is_of painted x y in_x in_y
+    → IsPaintedOn area (λ col row. tile_after (on_tile width height commands col row)
+    (listed_at lists col row)) old new
+    → grid_pixels width height new ≡ layer_pixels width height commands lists old
+all_painted width height commands area lists old new is_of left right top bottom painted =
+    canvas_of-same width height (grid_pixel new) (waiting_pixel width height commands lists old)
+    (λ x y in_x in_y. painted_in width height commands area lists old new is_of painted x y in_x
+    in_y
     (inside_by area (x / 64) (y / 64) (record {
       left = omega (arith, left);
       right = omega (arith, right, is_of.cols, in_x);
@@ -382,31 +417,36 @@ dabs_wait (draws.DabsSquare layer a b r g c mode dabs) is = tt
 dabs_wait _ is = absurd is
 
 -- a grid that was painted by a command that was filed on its own
-pub filed_alone : (width height : ℕ) (op : Draw) → StaysOutside → MayWait op → (area : CellArea)
+pub filed_alone : (width height : ℕ) (commands : List Draw) (op : Draw) → StaysOutside → MayWait op
+    → (area : CellArea)
     (none filed : Lists) (old new : TileGrid) → IsGridOf width height old → none.lists ≡ []
     → ((x y : ℕ) → x < old.cols * 64 → y < old.rows * 64
     → is_in_foot (foot op) (pos x) (pos y) ≡ true → is_in_cells area (x / 64) (y / 64) ≡ true)
-    → IsFiled op area none filed
-    → IsPaintedOn area (λ col row. tile_after (listed_at filed col row)) old new
+    → IsFiled anywhere op area none filed
+    → IsPaintedOn area (λ col row. tile_after (on_tile width height commands col row)
+    (listed_at filed col row)) old new
     → grid_pixels width height new ≡ pixels_after width height op (grid_pixels width height old)
-filed_alone width height op law may area none filed old new is_of is_none covers is painted =
-    canvas_of-same width height (grid_pixel new) (waiting_pixel filed old)
+filed_alone width height commands op law may area none filed old new is_of is_none covers is
+    painted =
+    canvas_of-same width height (grid_pixel new) (waiting_pixel width height commands filed old)
     (λ x y in_x in_y.
     let col = x / 64 in
     let row = y / 64 in
-    ⊎_elim (painted_in width height area filed old new is_of painted x y in_x in_y)
+    ⊎_elim (painted_in width height commands area filed old new is_of painted x y in_x in_y)
     (λ t.
-    painted_out width height area filed old new is_of painted x y in_x in_y t
-    ∙ sym (ap (λ (ops : List TileOp). ops_at ops (x % 64) (y % 64) (grid_pixel old x y))
+    painted_out width height commands area filed old new is_of painted x y in_x in_y t
+    ∙ sym (ap (λ (ops : List TileOp). ops_at (on_tile width height commands (x / 64) (y / 64)) ops
+    (x % 64) (y % 64) (grid_pixel old x y))
     (is.outside col row (omega (arith, in_x, is_of.wide))
     (λ i. false≢true (sym t ∙ inside_by area col row i))
     ∙ nothing none is_none col row)))
     (cases_Bool (is_in_cells area col row)))
-    ∙ filed_layer width height op law may area none filed old is_of.wide is_of.high
+    ∙ filed_layer width height commands anywhere op law (waits_paint op may) (λ col row. tt) area
+    none filed old is_of.wide is_of.high
     (λ x y in_x in_y. covers x y (omega (arith, is_of.cols, in_x))
     (omega (arith, is_of.rows, in_y)))
     is
-    ∙ ap (pixels_after width height op) (no_lists width height none old is_none)
+    ∙ ap (pixels_after width height op) (no_lists width height commands none old is_none)
 
 -- the pixel drawn at a place depends on the foot alone
 abbrev pub FootTellsAll : Type 0
@@ -417,7 +457,8 @@ FootTellsAll = (width height : ℕ) (op : Draw) (old other : ℤ → ℤ → Cha
     → drawn width height op old x y ≡ drawn width height op other x y
 
 -- a command that was drawn on the grid, where nothing waits on the cells of its foot
-module _ (width height : ℕ) (op : Draw) (stays : StaysOutside) (tells : FootTellsAll)
+module _ (width height : ℕ) (commands : List Draw) (op : Draw) (stays : StaysOutside)
+    (tells : FootTellsAll)
     (wide : width ≤ 4096) (high : height ≤ 4096) (area : CellArea) (lists : Lists)
     (old new : TileGrid)
     (covers : (x y : ℕ) → x < width → y < height → is_in_foot (foot op) (pos x) (pos y) ≡ true
@@ -429,23 +470,24 @@ module _ (width height : ℕ) (op : Draw) (stays : StaysOutside) (tells : FootTe
   grid_at = pixel_of width height (grid_pixels width height old)
 
   abbrev layer_at : ℤ → ℤ → Channels
-  layer_at = pixel_of width height (layer_pixels width height lists old)
+  layer_at = pixel_of width height (layer_pixels width height commands lists old)
 
   at_grid : (x y : ℕ) → x < width → y < height → grid_at (pos x) (pos y) ≡ grid_pixel old x y
   at_grid x y in_x in_y = rw (lt-ltb x width in_x, lt-ltb y height in_y)
       (pixel_at-canvas_of width height (grid_pixel old) x y in_x in_y)
 
   at_layer : (x y : ℕ) → x < width → y < height
-      → layer_at (pos x) (pos y) ≡ waiting_pixel lists old x y
+      → layer_at (pos x) (pos y) ≡ waiting_pixel width height commands lists old x y
   at_layer x y in_x in_y = rw (lt-ltb x width in_x, lt-ltb y height in_y)
-      (pixel-layer width height lists old x y in_x in_y)
+      (pixel-layer width height commands lists old x y in_x in_y)
 
   -- in the foot nothing waits
   in_foot : (g : TileGrid) (x y : ℕ) → x < width → y < height
       → is_in_foot (foot op) (pos x) (pos y) ≡ true
-      → waiting_pixel lists g x y ≡ grid_pixel g x y
+      → waiting_pixel width height commands lists g x y ≡ grid_pixel g x y
   in_foot g x y in_x in_y f =
-      ap (λ (ops : List TileOp). ops_at ops (x % 64) (y % 64) (grid_pixel g x y))
+      ap (λ (ops : List TileOp). ops_at (on_tile width height commands (x / 64) (y / 64)) ops
+      (x % 64) (y % 64) (grid_pixel g x y))
       (none (x / 64) (y / 64) (inside_facts area (x / 64) (y / 64) (covers x y in_x in_y f)))
 
   same_in_foot : (v w : ℤ) → is_in (canvas_rect width height) v w ≡ true
@@ -469,7 +511,8 @@ module _ (width height : ℕ) (op : Draw) (stays : StaysOutside) (tells : FootTe
       in_x in_y
 
   each : (x y : ℕ) → x < width → y < height
-      → waiting_pixel lists new x y ≡ drawn width height op layer_at (pos x) (pos y)
+      → waiting_pixel width height commands lists new x y ≡ drawn width height op layer_at (pos x)
+      (pos y)
   each x y in_x in_y =
       ⊎_elim (λ f.
       in_foot new x y in_x in_y f ∙ new_pixel x y in_x in_y
@@ -477,42 +520,45 @@ module _ (width height : ℕ) (op : Draw) (stays : StaysOutside) (tells : FootTe
       (same_in_foot (pos x) (pos y) (on_canvas_at width height x y in_x in_y) f)
       (λ v w on in_f. same_in_foot v w on in_f))
       (λ f.
-      ap (ops_at (listed_at lists (x / 64) (y / 64)) (x % 64) (y % 64))
+      ap (ops_at (on_tile width height commands (x / 64) (y / 64))
+      (listed_at lists (x / 64) (y / 64)) (x % 64) (y % 64))
       (new_pixel x y in_x in_y
       ∙ stays width height op grid_at (pos x) (pos y) wide high f ∙ at_grid x y in_x in_y)
       ∙ sym (stays width height op layer_at (pos x) (pos y) wide high f
       ∙ at_layer x y in_x in_y))
       (cases_Bool (is_in_foot (foot op) (pos x) (pos y)))
 
-  pub drawn_under : layer_pixels width height lists new
-      ≡ pixels_after width height op (layer_pixels width height lists old)
+  pub drawn_under : layer_pixels width height commands lists new
+      ≡ pixels_after width height op (layer_pixels width height commands lists old)
   drawn_under =
-      canvas_of-same width height (waiting_pixel lists new)
+      canvas_of-same width height (waiting_pixel width height commands lists new)
       (λ x y. drawn width height op layer_at (pos x) (pos y)) each
 
 -- the layer of a grid that was painted by what waits and then got new sides
-pub resized_layer : (layer : LayerOf) (r : Resize) (width height : ℕ) (lists none : Lists)
-    (g shared settled new : TileGrid) → layer_of width height lists g ≡ layer → shared ≡ g
+pub resized_layer : (layer : LayerOf) (r : Resize) (width height : ℕ) (commands : List Draw)
+    (lists none : Lists)
+    (g shared settled new : TileGrid) → layer_of width height commands lists g ≡ layer → shared ≡ g
     → layer.width ≡ r.width → layer.height ≡ r.height
-    → grid_pixels width height settled ≡ layer_pixels width height lists shared
+    → grid_pixels width height settled ≡ layer_pixels width height commands lists shared
     → none.lists ≡ [] → IsResized r settled new
-    → layer_of r.new_width r.new_height none new
+    → layer_of r.new_width r.new_height commands none new
     ≡ record {
       width = r.new_width;
       height = r.new_height;
       pixels = pixels_resized r layer.pixels;
     }
-resized_layer layer r width height lists none g shared settled new view same wide high is is_none
+resized_layer layer r width height commands lists none g shared settled new view same wide high is
+    is_none
     resized =
     let before : grid_pixels r.width r.height settled ≡ layer.pixels =
     subst (λ (l : LayerOf). l.width ≡ r.width → l.height ≡ r.height
     → grid_pixels r.width r.height settled ≡ l.pixels) view
     (λ at_width at_height. rw (← at_width, ← at_height)
-    (is ∙ ap (layer_pixels width height lists) same)) wide high in
+    (is ∙ ap (layer_pixels width height commands lists) same)) wide high in
     ap (λ (ps : List Channels). record {
       width = r.new_width;
       height = r.new_height;
       pixels = ps;
     })
-    (no_lists r.new_width r.new_height none new is_none
+    (no_lists r.new_width r.new_height commands none new is_none
     ∙ resized.pixels ∙ ap (pixels_resized r) before)

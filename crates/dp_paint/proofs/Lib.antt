@@ -1,6 +1,9 @@
 pub mod Ops
 pub mod Waits
 pub mod Filed
+pub mod Made
+pub mod Counts
+pub mod Bands
 pub mod Layers
 pub mod Drawn
 pub mod FootLemmas

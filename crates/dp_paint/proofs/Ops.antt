@@ -4,7 +4,7 @@ use Rattle.std.proofs.Common.{length, get_or, take, cond, true, false, ◌&&◌,
 use Rattle.std.proofs.Common.{refl, sym, ◌∙◌, ap, arith, ◌⊎◌, ⊎_elim, replicate, min}
 use Rattle.std.specs.Prelude.{pos, ◌+ℤ◌, ◌-ℤ◌, Option, Some, None}
 use Rattle.std.proofs.lemmas.Int.{ints}
-use Rattle.std.proofs.lemmas.Bool.{cases_lt, cases_Bool, cond-false, false≢true}
+use Rattle.std.proofs.lemmas.Bool.{cases_lt, cases_Bool, cond-false, cond-true, false≢true}
 use Rattle.std.proofs.lemmas.Bool.{false_from_ne_true, and_parts}
 use Rattle.std.proofs.lemmas.Bool.{le-leb, lt-ltb, leb-true, ltb-true}
 use Rattle.std.proofs.lemmas.List.{take_more, length-replicate}
@@ -31,77 +31,78 @@ use Rattle.dp_tile.proofs.Tiles.{length-tile_of, pixel-tile_of}
 use Rattle.dp_paint.specs.declared.op.TileFill.{TileFill}
 use Rattle.dp_paint.specs.declared.op.TileDab.{TileDab}
 use Rattle.dp_paint.specs.declared.op.TileOp.{TileOp}
-use Rattle.dp_paint.specs.declared.op.TileOp.TheVariants.{Fill, Dab}
-use Rattle.dp_paint.specs.Ops.{code_of, dab_in_tile, is_in_fill, length-tile_after}
-use Rattle.dp_paint.specs.Ops.{mode_coded, op_at, ops_at, packed_dab, packed_fill, shape_code}
-use Rattle.dp_paint.specs.Ops.{shape_coded, tile_after}
+use Rattle.dp_paint.specs.declared.op.TileOp.TheVariants.{Fill, Dab, Command}
+use Rattle.dp_paint.specs.Ops.{OnTile, code_of, dab_at, dab_in_tile, fill_at, is_in_fill}
+use Rattle.dp_paint.specs.Ops.{length-tile_after, mode_coded, op_at, ops_at, packed_dab}
+use Rattle.dp_paint.specs.Ops.{packed_fill, packed_op, shape_code, shape_coded, tile_after}
 
 -- ---- a tile after operations
 
-module _ (ops : List TileOp) (pixels : List Channels) where
+module _ (t : OnTile) (ops : List TileOp) (pixels : List Channels) where
   -- one of its pixels
   pub pixel-tile_after : (x y : ℕ) → x < 64 → y < 64
-      → pixel_at 64 (tile_after ops pixels) x y ≡ ops_at ops x y (pixel_at 64 pixels x y)
+      → pixel_at 64 (tile_after t ops pixels) x y ≡ ops_at t ops x y (pixel_at 64 pixels x y)
   unfolding tile_after
   pixel-tile_after x y in_x in_y =
-      pixel_at-canvas_of 64 64 (λ x y. ops_at ops x y (pixel_at 64 pixels x y)) x y in_x in_y
+      pixel_at-canvas_of 64 64 (λ x y. ops_at t ops x y (pixel_at 64 pixels x y)) x y in_x in_y
 
   -- a list that has them at its places
   pub is_tile_after : (new : List Channels) → length new ≡ 4096
       → ((x y : ℕ) → x < 64 → y < 64
-      → pixel_at 64 new x y ≡ ops_at ops x y (pixel_at 64 pixels x y))
-      → new ≡ tile_after ops pixels
+      → pixel_at 64 new x y ≡ ops_at t ops x y (pixel_at 64 pixels x y))
+      → new ≡ tile_after t ops pixels
   unfolding tile_after
   is_tile_after new count each =
-      is_canvas_of 64 64 (λ x y. ops_at ops x y (pixel_at 64 pixels x y)) new count each
+      is_canvas_of 64 64 (λ x y. ops_at t ops x y (pixel_at 64 pixels x y)) new count each
 
 -- no operation keeps the tile
-pub none_after : (pixels : List Channels) → length pixels ≡ 4096 → pixels ≡ tile_after [] pixels
-none_after pixels count = is_tile_after [] pixels pixels count (λ x y in_x in_y. refl)
+pub none_after : (t : OnTile) (pixels : List Channels) → length pixels ≡ 4096
+    → pixels ≡ tile_after t [] pixels
+none_after t pixels count = is_tile_after t [] pixels pixels count (λ x y in_x in_y. refl)
 
-pub tile_none : (ops : List TileOp) (pixels : List Channels) → ops ≡ [] → length pixels ≡ 4096
-    → tile_after ops pixels ≡ pixels
-tile_none ops pixels none count =
-    ap (λ (l : List TileOp). tile_after l pixels) none ∙ sym (none_after pixels count)
+pub tile_none : (t : OnTile) (ops : List TileOp) (pixels : List Channels) → ops ≡ []
+    → length pixels ≡ 4096 → tile_after t ops pixels ≡ pixels
+tile_none t ops pixels none count =
+    ap (λ (l : List TileOp). tile_after t l pixels) none ∙ sym (none_after t pixels count)
 
 -- one operation more at a place
-pub ops_more : (ops : List TileOp) (op : TileOp) (x y : ℕ) (p : Channels)
-    → ops_at (ops ++ op ∷ []) x y p ≡ op_at op x y (ops_at ops x y p)
-ops_more ops op x y p =
-    fold-append (λ (old : Channels) (o : TileOp). op_at o x y old) p ops (op ∷ [])
+pub ops_more : (t : OnTile) (ops : List TileOp) (op : TileOp) (x y : ℕ) (p : Channels)
+    → ops_at t (ops ++ op ∷ []) x y p ≡ op_at t op x y (ops_at t ops x y p)
+ops_more t ops op x y p =
+    fold-append (λ (old : Channels) (o : TileOp). op_at t o x y old) p ops (op ∷ [])
 
 -- one operation more on a tile
-pub tile_more : (ops : List TileOp) (op : TileOp) (start before new : List Channels)
-    → before ≡ tile_after ops start → new ≡ tile_after (op ∷ []) before
-    → new ≡ tile_after (ops ++ op ∷ []) start
-tile_more ops op start before new first then =
-    is_tile_after (ops ++ op ∷ []) start new
-    (ap length then ∙ length-tile_after (op ∷ []) before)
+pub tile_more : (t : OnTile) (ops : List TileOp) (op : TileOp) (start before new : List Channels)
+    → before ≡ tile_after t ops start → new ≡ tile_after t (op ∷ []) before
+    → new ≡ tile_after t (ops ++ op ∷ []) start
+tile_more t ops op start before new first then =
+    is_tile_after t (ops ++ op ∷ []) start new
+    (ap length then ∙ length-tile_after t (op ∷ []) before)
     (λ x y in_x in_y.
     ap (λ (ps : List Channels). pixel_at 64 ps x y) then
-    ∙ pixel-tile_after (op ∷ []) before x y in_x in_y
-    ∙ ap (op_at op x y) (ap (λ (ps : List Channels). pixel_at 64 ps x y) first
-    ∙ pixel-tile_after ops start x y in_x in_y)
-    ∙ sym (ops_more ops op x y (pixel_at 64 start x y)))
+    ∙ pixel-tile_after t (op ∷ []) before x y in_x in_y
+    ∙ ap (op_at t op x y) (ap (λ (ps : List Channels). pixel_at 64 ps x y) first
+    ∙ pixel-tile_after t ops start x y in_x in_y)
+    ∙ sym (ops_more t ops op x y (pixel_at 64 start x y)))
 
 -- operations of which the first ones were done
-module _ (ops : List TileOp) (k : ℕ) (op : TileOp) (inside : k < length ops)
+module _ (t : OnTile) (ops : List TileOp) (k : ℕ) (op : TileOp) (inside : k < length ops)
     (is : op ≡ get_or ops k op) where
   pub take_op : take k ops ++ op ∷ [] ≡ take (k + 1) ops
   take_op = sym (take_more ops k op inside ∙ ap (λ (o : TileOp). take k ops ++ o ∷ []) (sym is))
 
   -- one of them more at a place
   pub ops_next : (x y : ℕ) (p : Channels)
-      → op_at op x y (ops_at (take k ops) x y p) ≡ ops_at (take (k + 1) ops) x y p
+      → op_at t op x y (ops_at t (take k ops) x y p) ≡ ops_at t (take (k + 1) ops) x y p
   ops_next x y p =
-      sym (ops_more (take k ops) op x y p) ∙ ap (λ (l : List TileOp). ops_at l x y p) take_op
+      sym (ops_more t (take k ops) op x y p) ∙ ap (λ (l : List TileOp). ops_at t l x y p) take_op
 
   -- one of them more on a tile
-  pub tile_next : (start before new : List Channels) → before ≡ tile_after (take k ops) start
-      → new ≡ tile_after (op ∷ []) before → new ≡ tile_after (take (k + 1) ops) start
+  pub tile_next : (start before new : List Channels) → before ≡ tile_after t (take k ops) start
+      → new ≡ tile_after t (op ∷ []) before → new ≡ tile_after t (take (k + 1) ops) start
   tile_next start before new first then =
-      tile_more (take k ops) op start before new first then
-      ∙ ap (λ (l : List TileOp). tile_after l start) take_op
+      tile_more t (take k ops) op start before new first then
+      ∙ ap (λ (l : List TileOp). tile_after t l start) take_op
 
 -- a tile has 4096 pixels, given by a colour or not
 pub length-tile_pixels : (color : Option Channels) (pixels : List Channels)
@@ -110,24 +111,24 @@ length-tile_pixels (Some p) pixels count = length-tile_of p
 length-tile_pixels None pixels count = count
 
 -- a tile of a colour on which nothing waits
-pub shows_none : (ops : List TileOp) (color : Channels) (cell : List Channels) → ops ≡ []
-    → cell ≡ tile_of color → tile_of color ≡ tile_after ops cell
-shows_none ops color cell none is =
-    none_after (tile_of color) (length-tile_of color)
+pub shows_none : (t : OnTile) (ops : List TileOp) (color : Channels) (cell : List Channels)
+    → ops ≡ [] → cell ≡ tile_of color → tile_of color ≡ tile_after t ops cell
+shows_none t ops color cell none is =
+    none_after t (tile_of color) (length-tile_of color)
     ∙ (rw (none, is) refl)
 
 -- a tile of a colour that operations make of another one
-pub tile_becomes : (ops : List TileOp) (p q : Channels) (pixels : List Channels)
-    → ((x y : ℕ) → x < 64 → y < 64 → ops_at ops x y p ≡ q) → pixels ≡ tile_of p
-    → tile_after ops pixels ≡ tile_of q
-tile_becomes ops p q pixels each is =
-    sym (is_tile_after ops pixels (tile_of q) (length-tile_of q)
+pub tile_becomes : (t : OnTile) (ops : List TileOp) (p q : Channels) (pixels : List Channels)
+    → ((x y : ℕ) → x < 64 → y < 64 → ops_at t ops x y p ≡ q) → pixels ≡ tile_of p
+    → tile_after t ops pixels ≡ tile_of q
+tile_becomes t ops p q pixels each is =
+    sym (is_tile_after t ops pixels (tile_of q) (length-tile_of q)
     (λ x y in_x in_y.
     let old : pixel_at 64 pixels x y ≡ p =
     ap (λ (ps : List Channels). pixel_at 64 ps x y) is
     ∙ pixel-tile_of p (y * 64 + x) (omega (arith, in_x, in_y)) in
     pixel-tile_of q (y * 64 + x) (omega (arith, in_x, in_y))
-    ∙ sym (ap (ops_at ops x y) old ∙ each x y in_x in_y)))
+    ∙ sym (ap (ops_at t ops x y) old ∙ each x y in_x in_y)))
 
 -- ---- the part of a fill on a tile
 
@@ -162,15 +163,16 @@ fill_by f x y is =
 -- ---- dabs
 
 -- a tile on which a dab was drawn
-pub dab_drawn : (d : TileDab) (region : Region) (shape : Shape) (mode : Mode) (color : Channels)
+pub dab_drawn : (t : OnTile) (d : TileDab) (region : Region) (shape : Shape) (mode : Mode)
+    (color : Channels)
     (old new : List Channels) → region.x ≡ 0 → region.y ≡ 0 → region.width ≡ 64
     → region.height ≡ 64 → region.canvas_width ≡ 64 → region.canvas_height ≡ 64
     → shape ≡ d.shape → mode ≡ d.mode → color ≡ of_argb d.color → length old ≡ 4096
     → IsPainted region 64 (on_canvas region (dab_blended shape mode color (dab_in_tile d))) old new
-    → new ≡ tile_after (Dab d ∷ []) old
-dab_drawn d region shape mode color old new at_x at_y wide high cw ch by_shape by_mode by_color
+    → new ≡ tile_after t (Dab d ∷ []) old
+dab_drawn t d region shape mode color old new at_x at_y wide high cw ch by_shape by_mode by_color
     count is =
-    is_tile_after (Dab d ∷ []) old new (is.len ∙ count)
+    is_tile_after t (Dab d ∷ []) old new (is.len ∙ count)
     (λ x y in_x in_y.
     let here : is_in (canvas_rect 64 64) (pos x) (pos y) ≡ true =
     is_in_by (canvas_rect 64 64) (pos x) (pos y) (record {
@@ -192,7 +194,7 @@ pub dab_pixel : (d : TileDab) (region : Region) (shape : Shape) (mode : Mode) (c
     → x < 64 → y < 64
     → IsPainted region 1 (on_canvas region (dab_blended shape mode color (dab_in_tile d)))
     (old ∷ []) new
-    → get_or new 0 d0 ≡ op_at (Dab d) x y old
+    → get_or new 0 d0 ≡ dab_at d x y old
 dab_pixel d region shape mode color x y old new d0 at_x at_y wide high cw ch by_shape by_mode
     by_color in_x in_y is =
     let here : is_in (canvas_rect 64 64) (pos x) (pos y) ≡ true =
@@ -221,13 +223,35 @@ shapes_coded : (s : Shape) → shape_coded (shape_code s) ≡ s
 shapes_coded shapes.Round = refl
 shapes_coded shapes.Square = refl
 
+-- the numbers of a dab
+pub is_packed_dab : (low high : ℕ) → 2147483648 ≤ high → high < 3221225472
+    → packed_op low high ≡ packed_dab low (high - 2147483648)
+is_packed_dab low high big below =
+    let dab = packed_dab low (high - 2147483648) in
+    cond-false (ltb high 2147483648) (packed_fill low high)
+    (cond (ltb high 3221225472) dab (Command low))
+    (false_from_ne_true (ltb high 2147483648)
+    (λ t. absurd (omega (arith, ltb-true high 2147483648 t, big))))
+    ∙ cond-true (ltb high 3221225472) dab (Command low) (lt-ltb high 3221225472 below)
+
+-- the numbers of a command
+pub is_packed_command : (low high : ℕ) → 3221225472 ≤ high → packed_op low high ≡ Command low
+is_packed_command low high big =
+    let dab = packed_dab low (high - 2147483648) in
+    cond-false (ltb high 2147483648) (packed_fill low high)
+    (cond (ltb high 3221225472) dab (Command low))
+    (false_from_ne_true (ltb high 2147483648)
+    (λ t. absurd (omega (arith, ltb-true high 2147483648 t, big))))
+    ∙ cond-false (ltb high 3221225472) dab (Command low)
+    (false_from_ne_true (ltb high 3221225472)
+    (λ t. absurd (omega (arith, ltb-true high 3221225472 t, big))))
+
 pub dab_packed : (d : TileDab) (low high x y shape mode : ℕ) → pos x ≡ d.x +ℤ pos 256 → x < 512
     → pos y ≡ d.y +ℤ pos 256 → y < 512 → d.size < 256 → d.opacity < 256
     → shape ≡ shape_code d.shape → shape < 2 → mode ≡ code_of d.mode → mode < 8
     → d.color / 16777216 ≡ 255 → low ≡ d.color % 16777216 + d.opacity * 16777216
     → high ≡ x + y * 512 + d.size * 262144 + shape * 67108864 + mode * 134217728 + 2147483648
-    → cond (ltb high 2147483648) (packed_fill low high) (packed_dab low (high - 2147483648))
-    ≡ Dab d
+    → packed_op low high ≡ Dab d
 dab_packed d low high x y shape mode at_x few_x at_y few_y size opacity shaped few_shapes coded
     few_modes opaque color is =
     let big : 2147483648 ≤ high = omega (arith, is) in
@@ -245,9 +269,9 @@ dab_packed d low high x y shape mode at_x few_x at_y few_y size opacity shaped f
     let by_mode : h / 134217728 ≡ code_of d.mode =
     omega (arith, rest, few_x, few_y, size, few_shapes, coded) in
     let by_color : low % 16777216 + 4278190080 ≡ d.color = omega (arith, color, opaque) in
-    cond-false (ltb high 2147483648) (packed_fill low high) (packed_dab low h)
-    (false_from_ne_true (ltb high 2147483648)
-    (λ t. absurd (omega (arith, ltb-true high 2147483648 t, big))))
+    let below : high < 3221225472 =
+    omega (arith, is, few_x, few_y, size, few_shapes, few_modes) in
+    is_packed_dab low high big below
     ∙ (rw (
       mod_x,
       mod_y,
@@ -291,7 +315,7 @@ block_more p n m now prefix next rest done copied more is =
 -- ---- rows that are filled
 
 -- rows of a tile, filled from a column on before another, are what the fill makes of the tile
-module _ (f : TileFill) (left right top bottom : ℕ) (old part : List Channels)
+module _ (t : OnTile) (f : TileFill) (left right top bottom : ℕ) (old part : List Channels)
     (at_left : left ≡ f.left) (at_right : right ≡ min f.right 64) (at_top : top ≡ f.top)
     (at_bottom : bottom ≡ min f.bottom 64) (order : top < bottom) (count : length old ≡ 4096)
     (long : length part ≡ bottom * 64 - top * 64)
@@ -324,20 +348,20 @@ module _ (f : TileFill) (left right top bottom : ℕ) (old part : List Channels)
 
     -- a pixel that is filled
     is_filled : (x y : ℕ) → x < 64 → y < 64 → is_in_fill f x y ≡ true
-        → get_or new (y * 64 + x) clear ≡ op_at (Fill f) x y (get_or old (y * 64 + x) clear)
-    is_filled x y in_x in_y t =
-        let is = fill_facts f x y t in
+        → get_or new (y * 64 + x) clear ≡ fill_at f x y (get_or old (y * 64 + x) clear)
+    is_filled x y in_x in_y inside =
+        let is = fill_facts f x y inside in
         in_rows x y in_x (omega (arith, at_top, is.top)) (omega (arith, at_bottom, in_y, is.bottom))
         ∙ (rw (
           le-leb left x (omega (arith, at_left, is.left)),
           lt-ltb x right (omega (arith, at_right, in_x, is.right)),
-          t,
+          inside,
         ) refl)
 
     -- a pixel that stays
     is_kept : (x y : ℕ) → x < 64 → y < 64 → is_in_fill f x y ≡ false
         → get_or new (y * 64 + x) clear ≡ get_or old (y * 64 + x) clear
-    is_kept x y in_x in_y t =
+    is_kept x y in_x in_y out =
         ⊎_elim (λ above.
         get_or-before (top * 64) (bottom * 64) old rising fits part long (y * 64 + x) clear
         (omega (arith, above, in_x)))
@@ -350,7 +374,7 @@ module _ (f : TileFill) (left right top bottom : ℕ) (old part : List Channels)
         let across = and_parts (leb left x) (ltb x right) both in
         let from_left = leb-true left x across.0 in
         let to_right = ltb-true x right across.1 in
-        false≢true (sym t ∙ fill_by f x y (record {
+        false≢true (sym out ∙ fill_by f x y (record {
           left = omega (arith, at_left, from_left);
           right = omega (arith, at_right, to_right);
           top = omega (arith, at_top, from_top);
@@ -362,23 +386,23 @@ module _ (f : TileFill) (left right top bottom : ℕ) (old part : List Channels)
         (cases_lt y bottom))
         (cases_lt y top)
 
-    pub rows_filled : new ≡ tile_after (Fill f ∷ []) old
+    pub rows_filled : new ≡ tile_after t (Fill f ∷ []) old
     rows_filled =
-        is_tile_after (Fill f ∷ []) old new
+        is_tile_after t (Fill f ∷ []) old new
         (length-with_part (top * 64) (bottom * 64) old rising fits part long ∙ count)
         (λ x y in_x in_y.
         ⊎_elim (is_filled x y in_x in_y)
-        (λ t. is_kept x y in_x in_y t ∙ (rw t refl))
+        (λ out. is_kept x y in_x in_y out ∙ (rw out refl))
         (cases_Bool (is_in_fill f x y)))
 
 -- a fill without a column or a row keeps the tile
-pub none_filled : (f : TileFill) (old : List Channels) → length old ≡ 4096
-    → (min f.right 64 ≤ f.left) ⊎ (min f.bottom 64 ≤ f.top) → old ≡ tile_after (Fill f ∷ []) old
-none_filled f old count none =
-    is_tile_after (Fill f ∷ []) old old count
+pub none_filled : (t : OnTile) (f : TileFill) (old : List Channels) → length old ≡ 4096
+    → (min f.right 64 ≤ f.left) ⊎ (min f.bottom 64 ≤ f.top) → old ≡ tile_after t (Fill f ∷ []) old
+none_filled t f old count none =
+    is_tile_after t (Fill f ∷ []) old old count
     (λ x y in_x in_y.
-    let out : is_in_fill f x y ≡ false = false_from_ne_true (is_in_fill f x y) (λ t.
-    let is = fill_facts f x y t in
+    let out : is_in_fill f x y ≡ false = false_from_ne_true (is_in_fill f x y) (λ inside.
+    let is = fill_facts f x y inside in
     let a = is.left in
     let b = is.right in
     let c = is.top in

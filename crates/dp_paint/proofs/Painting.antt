@@ -11,7 +11,7 @@ use Rattle.dp_msg_draw.specs.declared.draw.Draw.{Draw}
 use Rattle.dp_msg_draw.specs.declared.draw.Draw.TheVariants as draws
 use Rattle.dp_pixels.specs.declared.region.Region.{Region}
 use Rattle.dp_pixels.specs.Commands.{drawn, pixel_drawn, pixel_of, pixels_after}
-use Rattle.dp_pixels.specs.Feet.{foot, is_in_foot}
+use Rattle.dp_pixels.specs.Feet.{foot, is_in_foot, reach, squares_of_foot}
 use Rattle.dp_pixels.specs.Regions.{IsPainted}
 use Rattle.dp_tile.specs.declared.area.CellArea.{CellArea}
 use Rattle.dp_tile.specs.Tiles.{TileGrid, cell_at, grid_pixel, grid_pixels}
@@ -117,3 +117,12 @@ grid_painted width height op is law area old new is_of covers painted =
     (painted.cells col row (omega (arith, is_of.cols, in_x)) (omega (arith, is_of.rows, in_y))
     ∙ cond-false (is_in_cells area col row)
     (tile_drawn width height op col row (cell_at old col row)) (cell_at old col row) t))
+
+-- it reaches the squares of its foot
+pub reach_painting : (op : Draw) → IsPainting op → reach op ≡ squares_of_foot (foot op)
+reach_painting (draws.FillRect layer mode x y w h color) is = refl
+reach_painting (draws.PutImage layer mode x y w h colors) is = refl
+reach_painting (draws.PutTile layer col row repeat content) is = refl
+reach_painting (draws.DabsRound layer x y r g b mode dabs) is = refl
+reach_painting (draws.DabsSquare layer x y r g b mode dabs) is = refl
+reach_painting _ is = absurd is

@@ -1,6 +1,7 @@
 -- Operations that wait for the tiles of a grid.
-use Rattle.std.specs.Prelude.{◌≡◌, ℕ, ◌+◌, ◌-◌, ◌*◌, ◌/◌, ◌%◌, ◌<◌, ◌≤◌, pos, ℤ}
+use Rattle.std.specs.Prelude.{◌≡◌, ℕ, zero, suc, ◌==◌, ◌+◌, ◌-◌, ◌*◌, ◌/◌, ◌%◌, ◌<◌, ◌≤◌, pos, ℤ}
 use Rattle.std.specs.Prelude.{nat_le, if◌then◌else◌, List, [], ◌++◌, length, slice_index_or}
+use Rattle.std.specs.Prelude.{slice_get, Some}
 use Rattle.dp_blend.specs.Color.{Channels}
 use Rattle.dp_blend.specs.Canvas.{canvas_of}
 use Rattle.dp_msg_draw.specs.declared.draw.Draw.{Draw}
@@ -9,7 +10,7 @@ use Rattle.dp_tile.specs.Tiles.{TileGrid, grid_pixel}
 use Rattle.dp_paint.specs.declared.op.TileOp.{TileOp}
 use Rattle.dp_paint.specs.declared.lists.Finish.{Finish}
 use Rattle.dp_paint.specs.declared.lists.Finish.TheVariants.{Keep, Drop, Clear}
-use Rattle.dp_paint.specs.Ops.{Draws, ops_at}
+use Rattle.dp_paint.specs.Ops.{Draws, OnTile, on_tile, ops_at, tile_after}
 
 -- the operations that wait on a tile, and those that were added since and don't count yet
 pub record Waiting : Type 0 where
@@ -42,14 +43,24 @@ pub record LayerOf : Type 0 where
   pub height : ℕ
   pub pixels : List Channels
 
--- the pixel at a place of a grid after all that waits on its tile
-abbrev pub waiting_pixel : Lists → TileGrid → ℕ → ℕ → Channels
-waiting_pixel lists g x y =
-    ops_at (listed_at lists (x / 64) (y / 64)) (x % 64) (y % 64) (grid_pixel g x y)
+-- the pixels of the tile at a column and a row of a canvas of these sides, after all that waits on
+-- it, where these commands are numbered
+abbrev pub waiting_tile : ℕ → ℕ → List Draw → Lists → ℕ → ℕ → List Channels → List Channels
+waiting_tile width height commands lists col row =
+    tile_after (on_tile width height commands col row) (listed_at lists col row)
 
--- the pixels of a canvas of this width and height, after all that waits on its tiles
-abbrev pub layer_pixels : ℕ → ℕ → Lists → TileGrid → List Channels
-layer_pixels width height lists g = canvas_of width height (waiting_pixel lists g)
+-- the pixel at a place of a grid on a canvas of these sides, after all that waits on its tile,
+-- where
+-- these commands are numbered
+abbrev pub waiting_pixel : ℕ → ℕ → List Draw → Lists → TileGrid → ℕ → ℕ → Channels
+waiting_pixel width height commands lists g x y =
+    ops_at (on_tile width height commands (x / 64) (y / 64)) (listed_at lists (x / 64) (y / 64))
+    (x % 64) (y % 64) (grid_pixel g x y)
+
+-- the pixels of the canvas, after all that waits on its tiles
+abbrev pub layer_pixels : ℕ → ℕ → List Draw → Lists → TileGrid → List Channels
+layer_pixels width height commands lists g =
+    canvas_of width height (waiting_pixel width height commands lists g)
 
 -- the cell at a column and a row is in the area
 pub record IsInside (area : CellArea) (col row : ℕ) : Type 0 where
@@ -58,10 +69,22 @@ pub record IsInside (area : CellArea) (col row : ℕ) : Type 0 where
   pub top : area.top ≤ row
   pub bottom : row < area.bottom
 
--- a command was filed: the lists of the cells of an area draw it more, and all others stay
-pub record IsFiled (command : Draw) (area : CellArea) (old new : Lists) : Type 0 where
-  pub inside : (col row : ℕ) → IsInside area col row
-      → Draws command col row (listed_at old col row) (listed_at new col row)
+-- on any tile, whatever is numbered there
+abbrev pub anywhere : OnTile → Type 0
+anywhere t = Unit {0}
+
+-- on a tile of a canvas of these sides where the command has this number
+pub record IsNumbered (wide high number : ℕ) (command : Draw) (t : OnTile) : Type 0 where
+  pub width : t.width ≡ wide
+  pub height : t.height ≡ high
+  pub numbered : slice_get t.commands number ≡ Some command
+
+-- a command was filed: the lists of the cells of an area draw it more, where the tiles are among
+-- some, and all others stay
+pub record IsFiled (among : OnTile → Type 0) (command : Draw) (area : CellArea) (old new : Lists)
+    : Type 0 where
+  pub inside : (t : OnTile) → among t → IsInside area t.col t.row
+      → Draws t command (listed_at old t.col t.row) (listed_at new t.col t.row)
   pub outside : (col row : ℕ) → col < 64 → (IsInside area col row → ⊥)
       → listed_at new col row ≡ listed_at old col row
 
@@ -109,10 +132,21 @@ pub record IsChangedOn (area : CellArea) (change : ℕ → ℕ → Waiting → W
   pub outside : (col row : ℕ) → col < 64 → (IsInside area col row → ⊥)
       → list_at new col row ≡ list_at old col row
 
--- what was added on a tile makes a change of its places more
-abbrev pub AddsMore : (ℤ → ℤ → Channels → Channels) → ℕ → ℕ → Waiting → Waiting → Type 0
-AddsMore change col row old new =
+-- what was added on a tile makes a change of its places more, if the tile is among some
+abbrev pub AddsMore : (OnTile → Type 0) → (ℤ → ℤ → Channels → Channels) → ℕ → ℕ
+    → Waiting → Waiting → Type 0
+AddsMore among change col row old new =
     (new.ops ≡ old.ops)
-    × ((i j : ℕ) (p : Channels) → i < 64 → j < 64
-    → ops_at new.more i j p
-    ≡ change (pos (col * 64 + i)) (pos (row * 64 + j)) (ops_at old.more i j p))
+    × ((t : OnTile) (i j : ℕ) (p : Channels) → t.col ≡ col → t.row ≡ row → among t
+    → i < 64 → j < 64
+    → ops_at t new.more i j p
+    ≡ change (pos (col * 64 + i)) (pos (row * 64 + j)) (ops_at t old.more i j p))
+
+-- 1 if operations wait on the tile of a number, where those of each row have 64 numbers, and else 0
+abbrev pub waits_on : Lists → ℕ → ℕ
+waits_on l number = if length (listed_at l (number % 64) (number / 64)) == 0 then 0 else 1
+
+-- on how many of the tiles before the one of a number operations wait
+pub waiting_before : Lists → ℕ → ℕ
+waiting_before l zero = 0
+waiting_before l (suc number) = waiting_before l number + waits_on l number

@@ -1,9 +1,10 @@
 -- Operations on tiles, which wait until these are painted or read.
-use Rattle.std.specs.Prelude.{◌≡◌, ◌==◌, ℕ, ◌+◌, ◌*◌, ◌/◌, ◌%◌, ◌<◌, ◌≤◌, Bool}
+use Rattle.std.specs.Prelude.{◌≡◌, ◌==◌, ℕ, ◌+◌, ◌-◌, ◌*◌, ◌/◌, ◌%◌, ◌<◌, ◌≤◌, Bool}
 use Rattle.std.specs.Prelude.{◌&&◌, nat_le, nat_lt, if◌then◌else◌, ℤ, pos}
-use Rattle.std.specs.Prelude.{◌-ℤ◌, ◌≤ℤ◌, ◌<ℤ◌, List, length, fold}
+use Rattle.std.specs.Prelude.{◌-ℤ◌, ◌≤ℤ◌, ◌<ℤ◌, List, length, fold, slice_get}
 use Rattle.std.specs.Int.{int_max, int_min}
-use Rattle.dp_blend.specs.Color.{Channels, fade, from8, of_argb}
+use Rattle.std.specs.Option.{option_map_or}
+use Rattle.dp_blend.specs.Color.{Channels, of_argb}
 use Rattle.dp_blend.specs.Blending.{blend}
 use Rattle.dp_blend.specs.declared.modes.Mode.{Mode}
 use Rattle.dp_blend.specs.declared.modes.Mode.TheVariants.{Erase, Normal, Multiply, Add, Recolor}
@@ -15,11 +16,11 @@ use Rattle.dp_msg_draw.specs.declared.draw.Draw.TheVariants.{FillRect, DabsRound
 use Rattle.dp_pixels.specs.declared.dabs.PlacedDab.{PlacedDab}
 use Rattle.dp_pixels.specs.declared.dabs.Shape.{Shape}
 use Rattle.dp_pixels.specs.declared.dabs.Shape.TheVariants.{Round, Square}
-use Rattle.dp_pixels.specs.Commands.{dab_blended, pixel_after}
+use Rattle.dp_pixels.specs.Commands.{dab_blended, pixel_drawn}
 use Rattle.dp_paint.specs.declared.op.TileFill.{TileFill}
 use Rattle.dp_paint.specs.declared.op.TileDab.{TileDab}
 use Rattle.dp_paint.specs.declared.op.TileOp.{TileOp}
-use Rattle.dp_paint.specs.declared.op.TileOp.TheVariants.{Fill, Dab}
+use Rattle.dp_paint.specs.declared.op.TileOp.TheVariants.{Fill, Dab, Command}
 
 -- ---- one operation
 
@@ -32,34 +33,60 @@ abbrev pub dab_in_tile : TileDab → PlacedDab
 dab_in_tile d =
     record { at = record { x = d.x; y = d.y }; size = d.size; opacity = d.opacity }
 
--- what an operation makes of a pixel that it changes
-abbrev pub color_of_op : TileOp → Channels → Channels
-color_of_op (Fill f) old = blend f.mode (of_argb f.color) old
-color_of_op (Dab d) old = blend d.mode (fade (of_argb d.color) (from8 d.opacity)) old
+-- where operations stand: the commands that they number, on a canvas of these sides, and the column
+-- and the row of the tile
+pub record OnTile : Type 0 where
+  pub width : ℕ
+  pub height : ℕ
+  pub commands : List Draw
+  pub col : ℕ
+  pub row : ℕ
 
--- the pixel at a column and a row of a tile after an operation, of the old one there
-abbrev pub op_at : TileOp → ℕ → ℕ → Channels → Channels
-op_at (Fill f) x y old = if is_in_fill f x y then blend f.mode (of_argb f.color) old else old
-op_at (Dab d) x y old =
+-- such a place
+abbrev pub on_tile : ℕ → ℕ → List Draw → ℕ → ℕ → OnTile
+on_tile width height commands col row =
+    record { width = width; height = height; commands = commands; col = col; row = row }
+
+-- the pixel at a column and a row of a tile after a fill, of the old one there
+abbrev pub fill_at : TileFill → ℕ → ℕ → Channels → Channels
+fill_at f x y old = if is_in_fill f x y then blend f.mode (of_argb f.color) old else old
+
+-- and after a dab
+abbrev pub dab_at : TileDab → ℕ → ℕ → Channels → Channels
+dab_at d x y old =
     dab_blended d.shape d.mode (of_argb d.color) (dab_in_tile d) (pos x) (pos y) old
+
+-- and after the command of a number
+abbrev pub command_at : OnTile → ℕ → ℕ → ℕ → Channels → Channels
+command_at t number x y old =
+    option_map_or (λ command.
+    pixel_drawn t.width t.height command (pos (t.col * 64 + x)) (pos (t.row * 64 + y)) old)
+    (slice_get t.commands number) old
+
+-- and after an operation
+abbrev pub op_at : OnTile → TileOp → ℕ → ℕ → Channels → Channels
+op_at t (Fill f) = fill_at f
+op_at t (Dab d) = dab_at d
+op_at t (Command number) = command_at t number
 
 -- ---- operations one after the other
 
 -- the pixel at a column and a row of a tile after operations
-abbrev pub ops_at : List TileOp → ℕ → ℕ → Channels → Channels
-ops_at ops x y old = fold (λ under op. op_at op x y under) old ops
+abbrev pub ops_at : OnTile → List TileOp → ℕ → ℕ → Channels → Channels
+ops_at t ops x y old = fold (λ under op. op_at t op x y under) old ops
 
 -- the pixels of a tile after operations
-unfoldable pub tile_after : List TileOp → List Channels → List Channels
-tile_after ops pixels = canvas_of 64 64 (λ x y. ops_at ops x y (pixel_at 64 pixels x y))
+unfoldable pub tile_after : OnTile → List TileOp → List Channels → List Channels
+tile_after t ops pixels = canvas_of 64 64 (λ x y. ops_at t ops x y (pixel_at 64 pixels x y))
 
--- the law of what waits: the new operations draw a command on the tile at a column and a row after
--- the old ones
-abbrev pub Draws : Draw → ℕ → ℕ → List TileOp → List TileOp → Type 0
-Draws command col row old new =
+-- the law of what waits: on the canvas, the new operations draw a command after the old ones
+abbrev pub Draws : OnTile → Draw → List TileOp → List TileOp → Type 0
+Draws t command old new =
     (i j : ℕ) (p : Channels) → i < 64 → j < 64
-    → ops_at new i j p
-    ≡ pixel_after command (pos (col * 64 + i)) (pos (row * 64 + j)) (ops_at old i j p)
+    → t.col * 64 + i < t.width → t.row * 64 + j < t.height
+    → ops_at t new i j p
+    ≡ pixel_drawn t.width t.height command (pos (t.col * 64 + i)) (pos (t.row * 64 + j))
+    (ops_at t old i j p)
 
 -- ---- packed operations
 
@@ -68,6 +95,7 @@ abbrev pub IsPackable : TileOp → Type 0
 IsPackable (Fill f) = (f.left ≤ 64) × (f.right ≤ 64) × (f.top ≤ 64) × (f.bottom ≤ 64)
 IsPackable (Dab d) = ((pos 0 -ℤ pos 256) ≤ℤ d.x) × (d.x <ℤ pos 256)
     × ((pos 0 -ℤ pos 256) ≤ℤ d.y) × (d.y <ℤ pos 256) × (d.color / 16777216 ≡ 255)
+IsPackable (Command number) = Unit {0}
 
 -- the number of a mode
 abbrev pub code_of : Mode → ℕ
@@ -118,6 +146,13 @@ packed_dab low high =
       color = low % 16777216 + 4278190080;
     })
 
+-- the operation of two numbers
+abbrev pub packed_op : ℕ → ℕ → TileOp
+packed_op low high =
+    if nat_lt high 2147483648 then packed_fill low high
+    else if nat_lt high 3221225472 then packed_dab low (high - 2147483648)
+    else Command low
+
 -- ---- in the words of the code
 
 -- where a place stands on one axis, counted from the first place of a column or row of tiles, from
@@ -133,8 +168,8 @@ MayWait (DabsSquare layer x y r g b mode dabs) = Unit {0}
 MayWait _ = ⊥
 
 -- a tile has 4096 pixels after operations
-pub length-tile_after : (ops : List TileOp) (pixels : List Channels)
-    → length (tile_after ops pixels) ≡ 4096
+pub length-tile_after : (t : OnTile) (ops : List TileOp) (pixels : List Channels)
+    → length (tile_after t ops pixels) ≡ 4096
 unfolding tile_after
-length-tile_after ops pixels =
-    length-canvas_of 64 64 (λ x y. ops_at ops x y (pixel_at 64 pixels x y))
+length-tile_after t ops pixels =
+    length-canvas_of 64 64 (λ x y. ops_at t ops x y (pixel_at 64 pixels x y))

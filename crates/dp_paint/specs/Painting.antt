@@ -1,6 +1,6 @@
 -- Commands on grids of tiles.
 use Rattle.std.specs.Prelude.{◌≡◌, ℕ, ◌+◌, ◌*◌, ◌<◌, ◌≤◌, pos, ◌≤ℤ◌, true, List, length}
-use Rattle.std.specs.Prelude.{Option, Some, None, unsigned_abs, ◌^◌}
+use Rattle.std.specs.Prelude.{Option, Some, None, unsigned_abs, ◌^◌, fold}
 use Rattle.dp_blend.specs.Color.{Channels}
 use Rattle.dp_blend.specs.Canvas.{canvas_of, pixel_at}
 use Rattle.dp_blend.proofs.Canvas.{length-canvas_of}
@@ -8,7 +8,7 @@ use Rattle.dp_msg_draw.specs.declared.draw.Draw.{Draw}
 use Rattle.dp_msg_draw.specs.declared.draw.Draw.TheVariants.{FillRect, PutImage, PutTile, DabsRound}
 use Rattle.dp_msg_draw.specs.declared.draw.Draw.TheVariants.{DabsSquare}
 use Rattle.dp_pixels.specs.declared.rect.Rect.{Rect}
-use Rattle.dp_pixels.specs.Commands.{pixel_drawn}
+use Rattle.dp_pixels.specs.Commands.{pixel_drawn, pixels_after}
 use Rattle.dp_pixels.specs.declared.feet.Footprint.{Footprint}
 use Rattle.dp_pixels.specs.declared.feet.Footprint.TheVariants.{Area}
 use Rattle.dp_pixels.specs.Rectangles.{canvas_rect, is_in}
@@ -37,6 +37,11 @@ tile_drawn width height op col row pixels =
     canvas_of 64 64
     (λ i j.
     pixel_drawn width height op (pos (col * 64 + i)) (pos (row * 64 + j)) (pixel_at 64 pixels i j))
+
+-- the pixels of a layer after commands, one after the other
+abbrev pub pixels_after_all : ℕ → ℕ → List Draw → List Channels → List Channels
+pixels_after_all width height commands pixels =
+    fold (λ old command. pixels_after width height command old) pixels commands
 
 -- the rectangle of a foot that is one
 abbrev pub foot_area : Footprint → Option Rect

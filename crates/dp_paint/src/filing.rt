@@ -9,8 +9,7 @@ ghost use Rattle.dp_pixels.specs.Strokes.{brush_of};
 ghost use Rattle.dp_pixels.specs.Rectangles.{is_in};
 ghost use Rattle.dp_paint.specs.Ops.{MayWait, tile_place};
 ghost use Rattle.dp_paint.specs.Lists.{AddsMore, AllCount, HaveSame, IsChangedOn, IsFiled};
-ghost use Rattle.dp_paint.specs.Lists.{IsInside};
-ghost use Rattle.dp_paint.specs.Lists.{StayOutside};
+ghost use Rattle.dp_paint.specs.Lists.{IsInside, IsNumbered, StayOutside, anywhere};
 
 use crate::cells::{MAX_SIDE, tiles_met};
 use crate::lists::{Finish, TileLists};
@@ -25,17 +24,22 @@ use std::alloc::{AllocError, Global};
 pub(crate) trait TileSource {
     ghost use Rattle.std.specs.Prelude.{◌≡◌, ◌+◌, ◌*◌, ◌<◌, ℕ, ℤ, pos};
     ghost use Rattle.dp_blend.specs.Color.{Channels};
-    ghost use Rattle.dp_paint.specs.Ops.{IsPackable, op_at};
+    ghost use Rattle.dp_paint.specs.Ops.{IsPackable, OnTile, op_at};
 
     /// The pixel at a place after it, of the old one there.
     ghost change: { Self → ℤ → ℤ → Channels → Channels };
+
+    /// The tiles on which its operations do it: those on which its command has the right number.
+    ghost among: { Self → OnTile → Type 0 };
 
     /// What it does on the tile at a column and a row.
     fn op(&self, col: u32, row: u32) -> TileOp
         requires col { col < 64 }
         requires row { row < 64 }
         ensures packs { IsPackable result }
-        ensures drawn { (i j : ℕ) (p : Channels) → i < 64 → j < 64 → op_at result i j p
+        ensures drawn { (t : OnTile) (i j : ℕ) (p : Channels) → t.col ≡ col → t.row ≡ row
+            → among self.now t → i < 64 → j < 64
+            → op_at t result i j p
             ≡ change self.now (pos (col * 64 + i)) (pos (row * 64 + j)) p };
 }
 
@@ -73,9 +77,12 @@ impl TileSource for RectFill {
     ghost use Rattle.dp_blend.specs.Color.{of_argb};
     ghost use Rattle.dp_blend.specs.Blending.{blend};
     ghost use Rattle.dp_pixels.specs.Rectangles.{is_in, rect_at};
+    ghost use Rattle.dp_paint.specs.Lists.{anywhere};
 
     ghost change = { λ f x y old. if is_in (rect_at (pos f.x) (pos f.y) f.w f.h) x y
         then blend f.mode (of_argb f.color) old else old };
+
+    ghost among = { λ f. anywhere };
 
     #[inline(always)]
     fn op(&self, col: u32, row: u32) -> TileOp {
@@ -130,9 +137,12 @@ fn from_tile(at: i64, tile: u32) -> i16
 impl TileSource for StrokeDab {
     ghost use Rattle.dp_blend.specs.Color.{of_argb};
     ghost use Rattle.dp_pixels.specs.Commands.{dab_blended};
+    ghost use Rattle.dp_paint.specs.Lists.{anywhere};
 
     ghost change = { λ d. dab_blended d.stroke.shape d.stroke.mode (of_argb d.stroke.color)
         d.dab.dab };
+
+    ghost among = { λ d. anywhere };
 
     fn op(&self, col: u32, row: u32) -> TileOp {
         let dab = self.dab.dab;
@@ -219,7 +229,7 @@ fn add_dabs(
     ensures same { HaveSame lists.old lists.new }
     ensures others { StayOutside area lists.old lists.new }
     ensures added { OnOk result
-        (IsChangedOn area (AddsMore (pixel_after command.now)) lists.old lists.new) }
+        (IsChangedOn area (AddsMore anywhere (pixel_after command.now)) lists.old lists.new) }
 {
     messages_are_their_dabs();
     let Some(stroke) = stroke_of(command) else {
@@ -253,7 +263,7 @@ fn add_command(
     ensures same { HaveSame lists.old lists.new }
     ensures others { StayOutside area lists.old lists.new }
     ensures added { OnOk result
-        (IsChangedOn area (AddsMore (pixel_after command.now)) lists.old lists.new) }
+        (IsChangedOn area (AddsMore anywhere (pixel_after command.now)) lists.old lists.new) }
 {
     match command {
         Draw::FillRect {
@@ -282,6 +292,16 @@ fn add_command(
     }
 }
 
+/// Whether a command is a fill or a message of dabs.
+pub(crate) fn is_fill_or_dabs(command: &Draw) -> bool
+    ensures { result ≡ true → MayWait command.now }
+{
+    matches!(
+        command,
+        Draw::FillRect { .. } | Draw::DabsRound { .. } | Draw::DabsSquare { .. }
+    )
+}
+
 /// The most tiles that a fill which waits may change.
 const FEW_TILES: u32 = 64;
 
@@ -300,6 +320,65 @@ pub(crate) fn may_wait(command: &Draw, area: CellArea) -> bool
         }
         Draw::DabsRound { .. } | Draw::DabsSquare { .. } => true,
         _ => false,
+    }
+}
+
+/// A command that has a number, on a canvas of these sides.
+#[derive(Clone, Copy)]
+pub(crate) struct Numbered<'a> {
+    pub width: u32,
+    pub height: u32,
+    pub number: u32,
+    pub command: &'a Draw,
+}
+
+impl TileSource for Numbered<'_> {
+    ghost use Rattle.dp_pixels.specs.Commands.{pixel_drawn};
+    ghost use Rattle.dp_paint.specs.Lists.{IsNumbered};
+
+    ghost change = { λ c. pixel_drawn c.width c.height c.command.now };
+
+    ghost among = { λ c. IsNumbered c.width c.height c.number c.command.now };
+
+    fn op(&self, _col: u32, _row: u32) -> TileOp {
+        TileOp::Command(self.number)
+    }
+}
+
+/// Has a command wait by its number on the tiles of an area, which has all that it reaches.
+///
+/// # Errors
+///
+/// The same operations wait on each tile.
+pub(crate) fn file_number(
+    lists: &mut TileLists,
+    alloc: Global,
+    source: &Numbered<'_>,
+    area: CellArea,
+) -> Result<(), AllocError>
+    requires across { area.left ≤ area.right }
+    requires down { area.top ≤ area.bottom }
+    requires cols { area.right ≤ 64 }
+    requires rows { area.bottom ≤ 64 }
+    requires first { lists.old.first ≤ area.top }
+    requires counts { AllCount lists.old }
+    ensures first { lists.new.first ≡ lists.old.first }
+    ensures filed { OnOk result (IsFiled (IsNumbered source.now.width source.now.height
+        source.now.number source.now.command.now) source.now.command.now area lists.old
+        lists.new) }
+    ensures same { OnErr result (HaveSame lists.old lists.new) }
+    ensures counts { AllCount lists.new }
+{
+    lists.grow(alloc, area.bottom)?;
+    match lists.add(source, area) {
+        Ok(()) => {
+            lists.finish(area, Finish::Keep);
+            Ok(())
+        }
+        Err(refused) => {
+            lists.finish(area, Finish::Drop);
+            Err(refused)
+        }
     }
 }
 
@@ -323,7 +402,7 @@ pub(crate) fn file(
     requires first { lists.old.first ≤ area.top }
     requires counts { AllCount lists.old }
     ensures first { lists.new.first ≡ lists.old.first }
-    ensures filed { OnOk result (IsFiled command.now area lists.old lists.new) }
+    ensures filed { OnOk result (IsFiled anywhere command.now area lists.old lists.new) }
     ensures same { OnErr result (HaveSame lists.old lists.new) }
     ensures counts { AllCount lists.new }
 {

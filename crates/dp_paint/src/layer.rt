@@ -17,19 +17,23 @@ ghost use Rattle.dp_paint.specs.Reading.{ChangesPixels};
 use crate::blank::blank_grid;
 use crate::feet::foot_cells;
 use crate::filing::{file, may_wait};
+use crate::in_place::{paint_in_place, paint_lists, settle};
 use crate::lists::TileLists;
 use crate::movement::move_in_place;
-use crate::paint::{paint_in_place, paint_lists, settle};
 use crate::painter::show_ops;
 use crate::resize::resized_grid;
+use crate::sheet::Sheet;
+use crate::workers::{Workers, settle_all};
 use dp_blend::Pixel;
 use dp_msg_draw::Draw;
 use dp_pixels::{Resize, pixels_stay_outside_the_foot, the_foot_tells_all};
 use dp_steps::Steps;
 use dp_tile::{CellArea, Grid};
+use dp_wire::Gate;
 use std::alloc::{AllocError, Global};
 use std::marker::Model;
 use std::sync::ledger::Ledger;
+use std::thread::Threads;
 
 /// How many operations may be added for each tile of the layer before all are painted.
 const WAITING: usize = 1024;
@@ -48,7 +52,7 @@ pub struct DeferredGrid {
 }
 
 impl Model for DeferredGrid {
-    ghost use Rattle.std.specs.Prelude.{◌≡◌};
+    ghost use Rattle.std.specs.Prelude.{◌≡◌, []};
     ghost use Rattle.dp_paint.specs.Painting.{IsGridOf};
     ghost use Rattle.dp_paint.specs.Lists.{AllCount, LayerOf, layer_pixels};
 
@@ -57,7 +61,7 @@ impl Model for DeferredGrid {
     ghost view = { λ d. record {
       width = d.width;
       height = d.height;
-      pixels = layer_pixels d.width d.height d.lists d.grid;
+      pixels = layer_pixels d.width d.height [] d.lists d.grid;
     } };
 
     ghost invariant = { λ d. IsGridOf d.width d.height d.grid
@@ -174,24 +178,73 @@ impl DeferredGrid {
         file(&mut self.lists, self.grid.alloc(), command, area)
     }
 
+    /// Whether a part of the operations that may wait were added, one of so many: 1 for all.
+    fn has_part(&self, part: usize) -> bool
+        requires { 0 < part }
+    {
+        self.grid.known();
+        let (cols, rows) = (self.grid.cols(), self.grid.rows());
+        self.lists.added() >= cols as usize * rows as usize * WAITING / part
+    }
+
+    /// Whether so much waits that all of it is painted before the next command waits.
+    pub fn is_full(&self) -> bool {
+        self.has_part(1)
+    }
+
+    /// Whether at least half as much waits.
+    pub fn is_half_full(&self) -> bool {
+        self.has_part(2)
+    }
+
+    /// Paints all that waits, by workers.
+    ///
+    /// # Errors
+    ///
+    /// Some of it may be painted.
+    pub fn settle_by<R: Threads + Sync, G: Gate, T: Ledger>(
+        &mut self,
+        rt: &R,
+        workers: &Workers<'_, G>,
+        tiles: &mut Steps<T>,
+    ) -> Result<(), AllocError>
+        ensures same { self.new ≡ self.old }
+        ensures tiles_rise { tiles.old ≤ tiles.new }
+        ensures few_tiles { tiles.new ≤ tiles.old + 4096 }
+    {
+        let on = Sheet {
+            width: self.width,
+            height: self.height,
+            commands: &[],
+        };
+        settle_all(rt, &mut self.grid, on, &mut self.lists, workers, tiles)?;
+        self.lists = TileLists::new(self.grid.alloc(), 0);
+        Ok(())
+    }
+
     /// Paints all that waits, if it is too much.
     fn make_room<T: Ledger>(&mut self, tiles: &mut Steps<T>) -> Result<(), AllocError>
         ensures same { self.new ≡ self.old }
         ensures tiles_rise { tiles.old ≤ tiles.new }
         ensures few_tiles { tiles.new ≤ tiles.old + 4096 }
     {
-        self.grid.known();
-        let (cols, rows) = (self.grid.cols(), self.grid.rows());
-        if self.lists.added() < cols as usize * rows as usize * WAITING {
+        if !self.is_full() {
             return Ok(());
         }
+        self.grid.known();
+        let (cols, rows) = (self.grid.cols(), self.grid.rows());
         let all = CellArea {
             left: 0,
             right: cols,
             top: 0,
             bottom: rows,
         };
-        paint_lists(&mut self.grid, &self.lists, all, tiles)?;
+        let on = Sheet {
+            width: self.width,
+            height: self.height,
+            commands: &[],
+        };
+        paint_lists(&mut self.grid, on, &self.lists, all, tiles)?;
         self.lists = TileLists::new(self.grid.alloc(), 0);
         Ok(())
     }
@@ -221,7 +274,12 @@ impl DeferredGrid {
     {
         pixels_stay_outside_the_foot();
         the_foot_tells_all();
-        settle(&mut self.grid, &mut self.lists, area, tiles)?;
+        let on = Sheet {
+            width: self.width,
+            height: self.height,
+            commands: &[],
+        };
+        settle(&mut self.grid, on, &mut self.lists, area, tiles)?;
         draw_in_place(&mut self.grid, self.width, self.height, command, tiles)
     }
 
@@ -252,7 +310,12 @@ impl DeferredGrid {
             top: 0,
             bottom: grid.rows(),
         };
-        paint_lists(&mut grid, &self.lists, all, tiles)?;
+        let on = Sheet {
+            width: self.width,
+            height: self.height,
+            commands: &[],
+        };
+        paint_lists(&mut grid, on, &self.lists, all, tiles)?;
         Ok(DeferredGrid {
             width: change.new_width as u32,
             height: change.new_height as u32,
@@ -300,7 +363,13 @@ impl DeferredGrid {
     {
         self.grid.known();
         let color = self.grid.read_tile(col, row, pixels);
-        show_ops(self.lists.ops(col, row), color, pixels)
+        let ops = self.lists.ops(col, row);
+        let on = Sheet {
+            width: self.width,
+            height: self.height,
+            commands: &[],
+        };
+        show_ops(&on, col, row, ops, color, pixels)
     }
 
     /// The pixel at a place.

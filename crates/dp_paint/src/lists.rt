@@ -175,7 +175,7 @@ impl TileLists {
         ensures same { HaveSame self.old self.new }
         ensures others { StayOutside (row_to row col (col + 1)) self.old self.new }
         ensures added { OnOk result (IsChangedOn (row_to row col (col + 1))
-            (AddsMore (S.change source.now)) self.old self.new) }
+            (AddsMore (S.among source.now) (S.change source.now)) self.old self.new) }
     {
         let at = self.index(col, row);
         self.lists[at].add(source.op(col, row))
@@ -200,7 +200,7 @@ impl TileLists {
         ensures same { HaveSame self.old self.new }
         ensures others { StayOutside (row_to row left right) self.old self.new }
         ensures added { OnOk result (IsChangedOn (row_to row left right)
-            (AddsMore (S.change source.now)) self.old self.new) }
+            (AddsMore (S.among source.now) (S.change source.now)) self.old self.new) }
     {
         for col in left..right {
             self.add_at(source, col, row)?;
@@ -228,8 +228,8 @@ impl TileLists {
         ensures len { length self.new.lists ≡ length self.old.lists }
         ensures same { HaveSame self.old self.new }
         ensures others { StayOutside area self.old self.new }
-        ensures added { OnOk result
-            (IsChangedOn area (AddsMore (S.change source.now)) self.old self.new) }
+        ensures added { OnOk result (IsChangedOn area
+            (AddsMore (S.among source.now) (S.change source.now)) self.old self.new) }
     {
         let count = (area.right - area.left) * (area.bottom - area.top);
         self.added = self.added.saturating_add(count as usize);

@@ -3,10 +3,11 @@
 ghost use Rattle.std.specs.Prelude.{◌≡◌, [], ◌∷◌, ℕ, ◌<◌, true, length, IfSome, pos, ◌+ℤ◌, ◌-ℤ◌};
 ghost use Rattle.std.specs.Prelude.{◌≤ℤ◌, ◌<ℤ◌};
 ghost use Rattle.dp_blend.specs.Color.{Channels, of_argb};
-ghost use Rattle.dp_paint.specs.Ops.{IsPackable, code_of, color_of_op, dab_in_tile, is_in_fill};
-ghost use Rattle.dp_paint.specs.Ops.{mode_coded, op_at, packed_dab, shape_code, shape_coded};
-ghost use Rattle.dp_paint.specs.Ops.{tile_after};
+ghost use Rattle.dp_paint.specs.Ops.{IsPackable, OnTile, code_of, dab_at, dab_in_tile, fill_at};
+ghost use Rattle.dp_paint.specs.Ops.{is_in_fill, mode_coded, on_tile, op_at, packed_dab};
+ghost use Rattle.dp_paint.specs.Ops.{shape_code, shape_coded, tile_after};
 
+use crate::sheet::Sheet;
 use dp_blend::{Mode, Pixel, blend, fade, from8, of_argb, rows_fill};
 use dp_pixels::{Brush, NearDab, Place, PlacedDab, Region, Shape, draw_dab};
 use dp_tile::SIDE;
@@ -34,7 +35,7 @@ impl TileFill {
 
     /// The pixel at a column and a row of the tile after it, of the old one there.
     fn pixel_after(self, x: u32, y: u32, old: Pixel) -> Pixel
-        ensures { result ≡ op_at (TileOp.Fill self) x y old }
+        ensures { result ≡ fill_at self x y old }
     {
         let is_in = self.left as u32 <= x
             && x < self.right as u32
@@ -47,10 +48,23 @@ impl TileFill {
         }
     }
 
+    /// The colour of a tile of this colour after it, if it is known to be of one.
+    fn color_after(self, color: Pixel) -> Option<Pixel>
+        ensures { IfSome result (λ after. (x y : ℕ) → x < 64 → y < 64
+            → fill_at self x y color ≡ after) }
+    {
+        let after = blend(self.mode, of_argb(self.color), color);
+        if after == color || self.is_whole() {
+            Some(after)
+        } else {
+            None
+        }
+    }
+
     /// Draws it on a tile.
     fn draw(self, pixels: &mut [Pixel])
         requires { length pixels.old ≡ 4096 }
-        ensures { pixels.new ≡ tile_after (TileOp.Fill self ∷ []) pixels.old }
+        ensures { (t : OnTile) → pixels.new ≡ tile_after t (TileOp.Fill self ∷ []) pixels.old }
     {
         let (left, right) = (self.left as usize, (self.right as usize).min(SIDE));
         let (top, bottom) = (self.top as usize, (self.bottom as usize).min(SIDE));
@@ -105,10 +119,22 @@ impl TileDab {
         }
     }
 
+    /// The colour of a tile of this colour after it, if it is known to be of one.
+    fn color_after(self, color: Pixel) -> Option<Pixel>
+        ensures { IfSome result (λ after. (x y : ℕ) → dab_at self x y color ≡ after) }
+    {
+        let after = blend(
+            self.mode,
+            fade(of_argb(self.color), from8(self.opacity)),
+            color,
+        );
+        if after == color { Some(after) } else { None }
+    }
+
     /// Draws it on a tile.
     fn draw(self, pixels: &mut [Pixel])
         requires { length pixels.old ≡ 4096 }
-        ensures { pixels.new ≡ tile_after (TileOp.Dab self ∷ []) pixels.old }
+        ensures { (t : OnTile) → pixels.new ≡ tile_after t (TileOp.Dab self ∷ []) pixels.old }
     {
         let tile = Region {
             x: 0,
@@ -125,7 +151,7 @@ impl TileDab {
     fn pixel_after(self, x: u32, y: u32, old: Pixel) -> Pixel
         requires x { x < 64 }
         requires y { y < 64 }
-        ensures { result ≡ op_at (TileOp.Dab self) x y old }
+        ensures { result ≡ dab_at self x y old }
     {
         let place = Region {
             x,
@@ -141,71 +167,54 @@ impl TileDab {
     }
 }
 
-/// An operation on a tile.
+/// An operation on a tile. A command has its number in a list that is given beside.
 #[derive(Clone, Copy)]
 pub(crate) enum TileOp {
     Fill(TileFill),
     Dab(TileDab),
+    Command(u32),
 }
 
 impl TileOp {
-    /// The pixel at a column and a row of the tile after it, of the old one there.
+    /// The pixel at a column and a row of the tile after it, of the old one there, where no command
+    /// has a number.
     pub(crate) fn pixel_after(self, x: u32, y: u32, old: Pixel) -> Pixel
         requires x { x < 64 }
         requires y { y < 64 }
-        ensures { result ≡ op_at self x y old }
+        ensures { (t : OnTile) → t.commands ≡ [] → result ≡ op_at t self x y old }
     {
         match self {
             TileOp::Fill(fill) => fill.pixel_after(x, y, old),
             TileOp::Dab(dab) => dab.pixel_after(x, y, old),
+            TileOp::Command(_) => old,
         }
     }
 
     /// Draws it on a tile.
     #[inline(always)]
-    pub(crate) fn draw(self, pixels: &mut [Pixel])
-        requires { length pixels.old ≡ 4096 }
-        ensures { pixels.new ≡ tile_after (self ∷ []) pixels.old }
+    pub(crate) fn draw(self, on: &Sheet<'_>, col: u32, row: u32, pixels: &mut [Pixel])
+        requires col { col < 64 }
+        requires row { row < 64 }
+        requires count { length pixels.old ≡ 4096 }
+        ensures { pixels.new ≡ tile_after (on_tile on.now.width on.now.height on.now.commands.now
+            col row) (self ∷ []) pixels.old }
     {
         match self {
             TileOp::Fill(fill) => fill.draw(pixels),
             TileOp::Dab(dab) => dab.draw(pixels),
-        }
-    }
-
-    /// What it makes of a pixel that it changes.
-    fn changed(self, old: Pixel) -> Pixel
-        ensures { result ≡ color_of_op self old }
-    {
-        match self {
-            TileOp::Fill(fill) => blend(fill.mode, of_argb(fill.color), old),
-            TileOp::Dab(dab) => {
-                blend(dab.mode, fade(of_argb(dab.color), from8(dab.opacity)), old)
-            }
-        }
-    }
-
-    /// Whether it is known to change all pixels of the tile.
-    fn is_whole(self) -> bool
-        ensures { result ≡ true → (x y : ℕ) (old : Channels) → x < 64 → y < 64
-            → op_at self x y old ≡ color_of_op self old }
-    {
-        match self {
-            TileOp::Fill(fill) => fill.is_whole(),
-            TileOp::Dab(_) => false,
+            TileOp::Command(number) => on.draw(number, col, row, pixels),
         }
     }
 
     /// The colour of a tile of this colour after it, if it is known to be of one.
     pub(crate) fn color_after(self, color: Pixel) -> Option<Pixel>
-        ensures { IfSome result (λ after. (x y : ℕ) → x < 64 → y < 64
-            → op_at self x y color ≡ after) }
+        ensures { IfSome result (λ after. (t : OnTile) (x y : ℕ) → x < 64 → y < 64
+            → op_at t self x y color ≡ after) }
     {
-        let after = self.changed(color);
-        if after == color || self.is_whole() {
-            Some(after)
-        } else {
-            None
+        match self {
+            TileOp::Fill(fill) => fill.color_after(color),
+            TileOp::Dab(dab) => dab.color_after(color),
+            TileOp::Command(_) => None,
         }
     }
 }
@@ -264,31 +273,31 @@ fn shape_coded(code: u32) -> Shape
 /// The least number `high` of a packed dab. That of a fill is below it.
 const DAB: u32 = 2147483648;
 
+/// The number `high` of a packed number of a command. That of a dab is below it.
+const COMMAND: u32 = 3221225472;
+
 /// The number of opaque black.
 pub(crate) const OPAQUE: u32 = 4278190080;
 
 /// A `TileOp` in eight bytes, since many may wait.
 #[derive(Drop)]
 pub(crate) struct PackedOp {
-    /// The colour of a fill. Of a dab the colour, and its opacity in the eight highest bits.
+    /// The colour of a fill. Of a dab the colour, and its opacity in the eight highest bits. Of a
+    /// command its number.
     low: u32,
     /// From the lowest bit on: of a fill its four sides, seven bits each, and three of the mode. Of
     /// a dab `x` and `y`, nine bits each, from -256 on, eight of the size, one of the shape, three
-    /// of the mode, and the highest bit.
+    /// of the mode, and the highest bit. Of a command the two highest bits.
     high: u32,
 }
 
 impl Model for PackedOp {
-    ghost use Rattle.std.specs.Prelude.{◌-◌, nat_lt, if◌then◌else◌};
     ghost use Rattle.dp_paint.specs.declared.op.TileOp.{TileOp};
-    ghost use Rattle.dp_paint.specs.Ops.{packed_dab, packed_fill};
+    ghost use Rattle.dp_paint.specs.Ops.{packed_op};
 
     ghost Value = { TileOp };
 
-    ghost view = { λ p.
-        if nat_lt p.high 2147483648
-        then packed_fill p.low p.high
-        else packed_dab p.low (p.high - 2147483648) };
+    ghost view = { λ p. packed_op p.low p.high };
 }
 
 /// A place of a dab's middle on one axis, as a number that isn't negative.
@@ -366,6 +375,10 @@ impl PackedOp {
         match op {
             TileOp::Fill(fill) => PackedOp::of_fill(fill),
             TileOp::Dab(dab) => PackedOp::of_dab(dab),
+            TileOp::Command(number) => PackedOp {
+                low: number,
+                high: COMMAND,
+            },
         }
     }
 
@@ -394,6 +407,9 @@ impl PackedOp {
                 mode: mode_coded(self.high / 268435456),
             });
         }
-        TileOp::Dab(unpacked_dab(self.low, self.high - DAB))
+        if self.high < COMMAND {
+            return TileOp::Dab(unpacked_dab(self.low, self.high - DAB));
+        }
+        TileOp::Command(self.low)
     }
 }

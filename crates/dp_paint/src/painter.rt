@@ -9,13 +9,14 @@ ghost use Rattle.dp_pixels.specs.Rectangles.{rect_at};
 ghost use Rattle.dp_tile.specs.Painters.{KnownChange};
 ghost use Rattle.dp_tile.specs.Tiles.{tile_of, tile_pixels};
 ghost use Rattle.dp_paint.specs.Painting.{IsTileWithin, length-tile_drawn, tile_drawn};
-ghost use Rattle.dp_paint.specs.Ops.{length-tile_after, ops_at, tile_after};
-ghost use Rattle.dp_paint.specs.Lists.{listed_at};
+ghost use Rattle.dp_paint.specs.Ops.{OnTile, length-tile_after, on_tile, ops_at, tile_after};
+ghost use Rattle.dp_paint.specs.Lists.{listed_at, waiting_tile};
 
 use crate::fetch::{Fill, read_tile};
 use crate::lists::TileLists;
 use crate::op::{PackedOp, TileOp};
 use crate::put::TileRun;
+use crate::sheet::Sheet;
 use dp_blend::{Mode, Pixel, blend, of_argb};
 use dp_msg_draw::Draw;
 use dp_pixels::{Region, draw_region};
@@ -218,50 +219,69 @@ impl TilePainter for CommandPainter<'_> {
 }
 
 /// Draws operations one after the other on a tile.
-pub(crate) fn draw_ops(ops: &[PackedOp], pixels: &mut [Pixel])
-    requires { length pixels.old ≡ 4096 }
-    ensures { pixels.new ≡ tile_after ops.now pixels.old }
+pub(crate) fn draw_ops(on: &Sheet<'_>, col: u32, row: u32, ops: &[PackedOp], pixels: &mut [Pixel])
+    requires col { col < 64 }
+    requires row { row < 64 }
+    requires count { length pixels.old ≡ 4096 }
+    ensures { pixels.new ≡ tile_after
+        (on_tile on.now.width on.now.height on.now.commands.now col row) ops.now pixels.old }
 {
     for op in ops.iter() {
-        op.unpacked().draw(pixels);
+        op.unpacked().draw(on, col, row, pixels);
     }
 }
 
-/// Draws operations one after the other on a tile that is of one colour, if one is given, and else
-/// has these pixels. Gives its colour then, if it is known to be of one.
+/// Draws operations one after the other on the tile at a column and a row, which is of one colour,
+/// if one is given, and else has these pixels. Gives its colour then, if it is known to be of one.
 pub(crate) fn show_ops(
+    on: &Sheet<'_>,
+    col: u32,
+    row: u32,
     ops: &[PackedOp],
     color: Option<Pixel>,
     pixels: &mut [Pixel],
 ) -> Option<Pixel>
-    requires { length pixels.old ≡ 4096 }
-    ensures shown { tile_pixels result pixels.new
-        ≡ tile_after ops.now (tile_pixels color pixels.old) }
+    requires col { col < 64 }
+    requires row { row < 64 }
+    requires count { length pixels.old ≡ 4096 }
+    ensures shown { tile_pixels result pixels.new ≡ tile_after
+        (on_tile on.now.width on.now.height on.now.commands.now col row) ops.now
+        (tile_pixels color pixels.old) }
     ensures count { length pixels.new ≡ 4096 }
 {
     let mut color = color;
     for op in ops {
-        color = show_op(op.unpacked(), color, pixels);
+        color = show_op(on, col, row, op.unpacked(), color, pixels);
     }
     color
 }
 
 /// Draws an operation in the same way.
-fn show_op(op: TileOp, color: Option<Pixel>, pixels: &mut [Pixel]) -> Option<Pixel>
-    requires { length pixels.old ≡ 4096 }
-    ensures shown { tile_pixels result pixels.new
-        ≡ tile_after (op ∷ []) (tile_pixels color pixels.old) }
+fn show_op(
+    on: &Sheet<'_>,
+    col: u32,
+    row: u32,
+    op: TileOp,
+    color: Option<Pixel>,
+    pixels: &mut [Pixel],
+) -> Option<Pixel>
+    requires col { col < 64 }
+    requires row { row < 64 }
+    requires count { length pixels.old ≡ 4096 }
+    ensures shown { tile_pixels result pixels.new ≡ tile_after
+        (on_tile on.now.width on.now.height on.now.commands.now col row) (op ∷ [])
+        (tile_pixels color pixels.old) }
     ensures count { length pixels.new ≡ 4096 }
 {
     let Some(p) = color else {
-        op.draw(pixels);
+        op.draw(on, col, row, pixels);
         return None;
     };
     if let Some(after) = op.color_after(p) {
         return Some(after);
     }
     fill_tile(p, pixels);
-    op.draw(pixels);
+    op.draw(on, col, row, pixels);
     None
 }
 
@@ -295,8 +315,8 @@ fn copy_block(from: &[Pixel], to: &mut [Pixel])
 
 /// The colour of a tile of this colour after operations, if it is known to be of one.
 fn color_after(ops: &[PackedOp], color: Pixel) -> Option<Pixel>
-    ensures { IfSome result (λ after. (x y : ℕ) → x < 64 → y < 64
-        → ops_at ops.now x y color ≡ after) }
+    ensures { IfSome result (λ after. (t : OnTile) (x y : ℕ) → x < 64 → y < 64
+        → ops_at t ops.now x y color ≡ after) }
 {
     let mut color = color;
     for op in ops {
@@ -305,17 +325,19 @@ fn color_after(ops: &[PackedOp], color: Pixel) -> Option<Pixel>
     Some(color)
 }
 
-/// Operations on tiles, by their lists.
+/// Operations on the tiles of a canvas, by their lists.
 #[derive(Clone, Copy)]
 pub(crate) struct OpsPainter<'a> {
+    pub on: Sheet<'a>,
     pub lists: &'a TileLists,
 }
 
 impl TilePainter for OpsPainter<'_> {
-    ghost painted = { λ p col row. tile_after (listed_at p.lists.now col row) };
+    ghost painted = { λ p. waiting_tile p.on.width p.on.height p.on.commands.now p.lists.now };
 
     ghost keeps_count = { λ p col row pixels count.
-        length-tile_after (listed_at p.lists.now col row) pixels };
+        length-tile_after (on_tile p.on.width p.on.height p.on.commands.now col row)
+        (listed_at p.lists.now col row) pixels };
 
     fn change(&self, col: u32, row: u32, color: Option<Pixel>) -> TileChange {
         let ops = self.lists.ops(col, row);
@@ -338,7 +360,7 @@ impl TilePainter for OpsPainter<'_> {
             // This is never so. The test has the compiler keep what is read for it.
             return;
         }
-        draw_ops(ops, pixels);
+        draw_ops(&self.on, col, row, ops, pixels);
     }
 }
 

@@ -10,6 +10,7 @@ use Rattle.dp_pixels.specs.Commands.{dab_blended, dabs_blended, pixel_after}
 use Rattle.dp_pixels.specs.Dabs.{dab_rect}
 use Rattle.dp_pixels.specs.Rectangles.{is_in}
 use Rattle.dp_pixels.proofs.FootLemmas.{dab_stays}
+use Rattle.dp_paint.specs.Lists.{anywhere}
 use Rattle.dp_paint.proofs.Filed.{adds_none, adds_same, adds_then, dabs_next}
 use Rattle.dp_paint.proofs.filing.add_dabs.Goals as goal
 
@@ -19,7 +20,7 @@ loop-dab-init c = record {
   len = refl;
   same = λ col row few. refl;
   others = λ col row few out. refl;
-  added = adds_none c.args.area _ c.args.lists.now (λ x y p. refl);
+  added = adds_none anywhere c.args.area _ c.args.lists.now (λ x y p. refl);
 }
 
 pub loop-dab-preserved : goal.loop-dab-preserved
@@ -47,7 +48,7 @@ loop-dab-preserved c =
           }))
           ∙ before.others col row few out;
       added =
-          adds_then c.args.area met (dabs_blended s.shape s.mode color (take k placed))
+          adds_then anywhere c.args.area met (dabs_blended s.shape s.mode color (take k placed))
           (dab_blended s.shape s.mode color d.dab)
           (dabs_blended s.shape s.mode color (take (k + 1) placed)) c.args.lists.now
           c.loop-dab.lists c.add.new.self
@@ -78,7 +79,7 @@ returns-clause-added c =
     let placed = map f items in
     let k = c.loop-dab.dab-index in
     let end : length placed ≤ k = omega (arith, length-map items f) in
-    adds_same c.args.area (dabs_blended s.shape s.mode color (take k placed))
+    adds_same anywhere c.args.area (dabs_blended s.shape s.mode color (take k placed))
     (pixel_after c.args.command.now) c.args.lists.now c.loop-dab.lists
     (λ x y p.
     ap (λ (dabs : List PlacedDab). dabs_blended s.shape s.mode color dabs x y p)

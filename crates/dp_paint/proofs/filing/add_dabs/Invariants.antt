@@ -2,7 +2,7 @@ use Rattle.std.proofs.Common.{◌≡◌, length, map, take}
 use Rattle.dp_blend.specs.Color.{of_argb}
 use Rattle.dp_pixels.specs.declared.dabs.NearDab.{NearDab}
 use Rattle.dp_pixels.specs.Commands.{dabs_blended}
-use Rattle.dp_paint.specs.Lists.{AddsMore, HaveSame, IsChangedOn, StayOutside}
+use Rattle.dp_paint.specs.Lists.{AddsMore, HaveSame, IsChangedOn, StayOutside, anywhere}
 use Rattle.dp_paint.proofs.filing.add_dabs.Given as goal
 
 -- the dabs before the index were added
@@ -14,7 +14,7 @@ invariant-loop-dab l =
       same : HaveSame l.fn.lists l.lists;
       others : StayOutside l.area l.fn.lists l.lists;
       added : IsChangedOn l.area
-          (AddsMore (dabs_blended l.stroke.shape l.stroke.mode (of_argb l.stroke.color)
+          (AddsMore anywhere (dabs_blended l.stroke.shape l.stroke.mode (of_argb l.stroke.color)
           (take l.dab-index (map (λ (near : NearDab). near.dab) l.dab-items))))
           l.fn.lists l.lists;
     }

@@ -1,7 +1,10 @@
 use Rattle.std.proofs.Common.{◌∙◌, ap}
+use Rattle.std.specs.Prelude.{pos}
 use Rattle.dp_paint.specs.declared.lists.Finish.TheVariants.{Drop, Keep}
-use Rattle.dp_paint.specs.Lists.{Waiting}
+use Rattle.dp_pixels.specs.Commands.{pixel_after}
+use Rattle.dp_paint.specs.Lists.{Waiting, anywhere}
 use Rattle.dp_paint.proofs.Filed.{dropped_same, is_filed}
+use Rattle.dp_paint.proofs.Layers.{on_canvas_at, waits_drawn}
 use Rattle.dp_paint.proofs.Waits.{all_counts}
 use Rattle.dp_paint.proofs.filing.file.Goals as goal
 
@@ -12,8 +15,12 @@ returns-in_err-grow-clause-counts c = λ col row few.
 
 pub returns-in-Ok-clause-filed : goal.returns-in-Ok-clause-filed
 returns-in-Ok-clause-filed c =
-    is_filed c.args.command.now c.args.area c.args.lists.now c.grow.new.self
-    c.add_command.new.lists c.finish.new.self c.requires.cols c.in_ok-grow.ensures.same
+    let op = c.args.command.now in
+    is_filed anywhere op (pixel_after op) c.args.area c.args.lists.now c.grow.new.self
+    c.add_command.new.lists c.finish.new.self c.requires.cols
+    (λ t x y p among in_x in_y. waits_drawn t.width t.height op (pos x) (pos y) p
+    c.requires.command (on_canvas_at t.width t.height x y in_x in_y))
+    c.in_ok-grow.ensures.same
     c.requires.counts c.in-Ok.ensures.added c.finish.ensures
 
 pub returns-in-Ok-clause-counts : goal.returns-in-Ok-clause-counts

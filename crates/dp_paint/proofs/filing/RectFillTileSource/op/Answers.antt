@@ -5,7 +5,7 @@ use Rattle.dp_paint.proofs.Filed.{fill_met}
 use Rattle.dp_paint.proofs.filing.RectFillTileSource.op.Goals as goal
 
 pub returns-clause-drawn : goal.returns-clause-drawn
-returns-clause-drawn c = λ i j p in_x in_y.
+returns-clause-drawn c = λ on i j p at_col at_row among in_x in_y.
     let f = c.args.self.now in
     ap (λ t. cond t (blend f.mode (of_argb f.color) p) p)
     (fill_met (record {

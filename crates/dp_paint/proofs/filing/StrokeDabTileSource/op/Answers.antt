@@ -5,7 +5,7 @@ use Rattle.dp_paint.proofs.Filed.{dab_moved}
 use Rattle.dp_paint.proofs.filing.StrokeDabTileSource.op.Goals as goal
 
 pub returns-clause-drawn : goal.returns-clause-drawn
-returns-clause-drawn c = λ i j p in_x in_y.
+returns-clause-drawn c = λ t i j p at_col at_row among in_x in_y.
     let s = c.args.self.now.stroke in
     let dab = c.args.self.now.dab.dab in
     let size : Fits w8 dab.size = search rules in

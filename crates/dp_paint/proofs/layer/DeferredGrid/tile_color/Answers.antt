@@ -1,6 +1,7 @@
 use Rattle.std.proofs.Common.{◌≡◌, [], Some}
 use Rattle.dp_pixels.specs.Tiles.{ShowsTile}
 use Rattle.dp_tile.specs.Tiles.{cell_at, tile_of}
+use Rattle.dp_paint.specs.Ops.{on_tile}
 use Rattle.dp_paint.proofs.Ops.{shows_none}
 use Rattle.dp_paint.proofs.Layers.{known_none, shows_layer, some_then}
 use Rattle.dp_paint.proofs.layer.DeferredGrid.tile_color.Goals as goal
@@ -15,6 +16,7 @@ returns-then-is_empty c =
     ≡ tile_of color) (λ color. ShowsTile c.args.self.now.width c.args.self.now.height
     c.args.self.now.pixels c.args.col c.args.row (Some color) []) c.tile_color.ensures
     (λ color is.
-    shows_layer c.args.self.now inside.width inside.height inside.lists inside.grid c.args.col
+    shows_layer c.args.self.now inside.width inside.height [] inside.lists inside.grid c.args.col
     c.args.row found (Some color) [] c.self.view_is c.ops.ensures
-    (shows_none found color (cell_at inside.grid c.args.col c.args.row) none is))
+    (shows_none (on_tile inside.width inside.height [] c.args.col c.args.row) found color
+    (cell_at inside.grid c.args.col c.args.row) none is))

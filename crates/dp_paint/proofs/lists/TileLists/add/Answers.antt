@@ -6,7 +6,8 @@ use Rattle.dp_paint.proofs.lists.TileLists.add.Goals as goal
 pub loop-row-init : goal.loop-row-init
 loop-row-init g c =
     let view = c.self.view_is in
-    let change = AddsMore (g.S.TileSource.change c.args.source.now) in
+    let change = AddsMore (g.S.TileSource.among c.args.source.now)
+    (g.S.TileSource.change c.args.source.now) in
     let area = c.args.area in
     record {
       first = ap (λ (l : Lists). l.first) view;
@@ -31,7 +32,8 @@ loop-row-preserved g c = record {
         bottom = omega (arith, i.bottom, c.loop-row-test.true);
       }))
       ∙ c.loop-row.invariant.others col row few out;
-  added = rows_next (AddsMore (g.S.TileSource.change c.args.source.now)) c.args.area c.loop-row.row
+  added = rows_next (AddsMore (g.S.TileSource.among c.args.source.now)
+      (g.S.TileSource.change c.args.source.now)) c.args.area c.loop-row.row
       c.args.self.now c.loop-row.self c.add_row.new.self (omega (arith, c.loop-row.auto.row))
       c.requires.cols c.loop-row.invariant.added c.in_ok-add_row.ensures.added;
 }

@@ -11,6 +11,7 @@ invariant-loop-row g l =
       len : length l.self.lists ≡ length l.fn.self.lists;
       same : HaveSame l.fn.self l.self;
       others : StayOutside (l.area) l.fn.self l.self;
-      added : IsChangedOn (rows_to l.area l.row) (AddsMore (g.S.TileSource.change l.source))
+      added : IsChangedOn (rows_to l.area l.row) (AddsMore (g.S.TileSource.among l.source)
+          (g.S.TileSource.change l.source))
           l.fn.self l.self;
     }

@@ -9,7 +9,8 @@ loop-col-init g c = record {
   len = refl;
   same = λ col row few. refl;
   others = λ col row few out. refl;
-  added = row_none (AddsMore (g.S.TileSource.change c.args.source.now)) c.args.row c.args.left
+  added = row_none (AddsMore (g.S.TileSource.among c.args.source.now)
+      (g.S.TileSource.change c.args.source.now)) c.args.row c.args.left
       c.args.self.now;
 }
 
@@ -27,7 +28,8 @@ loop-col-preserved g c = record {
         bottom = i.bottom;
       }))
       ∙ c.loop-col.invariant.others col row few out;
-  added = row_next (AddsMore (g.S.TileSource.change c.args.source.now)) c.args.row c.args.left
+  added = row_next (AddsMore (g.S.TileSource.among c.args.source.now)
+      (g.S.TileSource.change c.args.source.now)) c.args.row c.args.left
       c.loop-col.col c.args.self.now c.loop-col.self c.add_at.new.self
       (omega (arith, c.loop-col.auto.col)) (omega (arith, c.loop-col-test.true, c.requires.cols))
       c.loop-col.invariant.added c.in_ok-add_at.ensures.added;

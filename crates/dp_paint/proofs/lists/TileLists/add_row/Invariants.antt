@@ -10,6 +10,7 @@ invariant-loop-col g l =
       len : length l.self.lists ≡ length l.initial.self.lists;
       same : HaveSame l.initial.self l.self;
       others : StayOutside (row_to l.row l.left l.right) l.initial.self l.self;
-      added : IsChangedOn (row_to l.row l.left l.col) (AddsMore (g.S.TileSource.change l.source))
+      added : IsChangedOn (row_to l.row l.left l.col) (AddsMore (g.S.TileSource.among l.source)
+          (g.S.TileSource.change l.source))
           l.initial.self l.self;
     }

@@ -1,15 +1,16 @@
-use Rattle.std.proofs.Common.{◌∙◌, ◌-◌, arith, ltb, sym}
-use Rattle.std.proofs.lemmas.Bool.{cond-false, false_from_ne_true, ltb-true}
-use Rattle.dp_paint.specs.Ops.{packed_dab, packed_fill}
+use Rattle.std.proofs.Common.{◌∙◌, arith, sym}
+use Rattle.dp_paint.proofs.Ops.{is_packed_command, is_packed_dab}
 use Rattle.dp_paint.proofs.op.PackedOp.unpacked.Goals as goal
+
+pub returns-then-self-lt-COMMAND : goal.returns-then-self-lt-COMMAND
+returns-then-self-lt-COMMAND c =
+    let low = c.self.inside.low in
+    let high = c.self.inside.high in
+    c.unpacked_dab.ensures ∙ sym (is_packed_dab low high (omega arith) (omega arith))
+    ∙ c.self.view_is
 
 pub returns : goal.returns
 returns c =
     let low = c.self.inside.low in
     let high = c.self.inside.high in
-    c.unpacked_dab.ensures
-    ∙ sym (cond-false (ltb high 2147483648) (packed_fill low high)
-    (packed_dab low (high - 2147483648))
-    (false_from_ne_true (ltb high 2147483648) (λ t.
-    absurd (omega (arith, ltb-true high 2147483648 t)))))
-    ∙ c.self.view_is
+    sym (is_packed_command low high (omega arith)) ∙ c.self.view_is

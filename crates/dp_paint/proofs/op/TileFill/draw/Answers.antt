@@ -11,7 +11,7 @@ use Rattle.dp_paint.proofs.op.TileFill.draw.Goals.{
 }
 
 pub returns-then-top-bottom : goal.returns-then-top-bottom
-returns-then-top-bottom c =
+returns-then-top-bottom c = λ t.
     let f = c.args.self in
     let old = c.args.pixels.now in
     let part = c.rows_fill.new.rows in
@@ -35,18 +35,18 @@ returns-then-top-bottom c =
     ∙ ap (λ (s : Channels). cond (leb left (k % 64) && ltb (k % 64) right)
     (blend f.mode s (get_or old (top * 64 + k) d)) (get_or old (top * 64 + k) d))
     c.of_argb.ensures.value in
-    rows_filled f left right top bottom old part refl at_right refl at_bottom c.if-top-bottom.true
+    rows_filled t f left right top bottom old part refl at_right refl at_bottom c.if-top-bottom.true
     c.requires (omega (arith, c.rows_fill.ensures.count, count)) each
 
 pub returns-else-left-right : goal.returns-else-left-right
-returns-else-left-right c =
+returns-else-left-right c = λ t.
     let f = c.args.self in
     let old = c.args.pixels.now in
     elim c.else-left-right.branch [
       | else-left-right-via-then-left-right+else-top-bottom w ↦
-          none_filled f old c.requires
+          none_filled t f old c.requires
           (inr (omega (arith, w.if-top-bottom.false, c.min-bottom.ensures)))
       | else-left-right-via-else-left-right w ↦
-          none_filled f old c.requires
+          none_filled t f old c.requires
           (inl (omega (arith, w.if-left-right.false, c.min-right.ensures)))
     ]

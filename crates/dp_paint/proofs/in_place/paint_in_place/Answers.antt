@@ -1,6 +1,6 @@
 use Rattle.std.proofs.lemmas.Result.{on_ok_weaker}
 use Rattle.dp_paint.proofs.Painting.{grid_painted}
-use Rattle.dp_paint.proofs.paint.paint_in_place.Goals as goal
+use Rattle.dp_paint.proofs.in_place.paint_in_place.Goals as goal
 
 pub returns-clause-pixels : goal.returns-clause-pixels
 returns-clause-pixels g c =

@@ -7,13 +7,13 @@ ghost use Rattle.dp_tile.specs.Areas.{IsPaintedOn, is_in_cells};
 ghost use Rattle.dp_tile.specs.Tiles.{grid_pixels};
 ghost use Rattle.dp_paint.specs.Painting.{IsGridOf, IsPainting};
 ghost use Rattle.dp_paint.specs.Reading.{IsAreaOf, cells_of};
-ghost use Rattle.dp_paint.specs.Ops.{tile_after};
-ghost use Rattle.dp_paint.specs.Lists.{IsChangedOn, IsFinished, listed_at};
+ghost use Rattle.dp_paint.specs.Lists.{IsChangedOn, IsFinished, waiting_tile};
 
 use crate::feet::cells_of;
 use crate::filing::file;
 use crate::lists::{Finish, TileLists};
 use crate::painter::{CommandPainter, OpsPainter};
+use crate::sheet::Sheet;
 use dp_msg_draw::Draw;
 use dp_pixels::pixels_stay_outside_the_foot;
 use dp_steps::Steps;
@@ -39,19 +39,21 @@ fn is_stroke(command: &Draw) -> bool
 /// The grid is as it was.
 pub(crate) fn paint_lists<T: Ledger>(
     grid: &mut Grid,
+    on: Sheet<'_>,
     lists: &TileLists,
     area: CellArea,
     tiles: &mut Steps<T>,
 ) -> Result<(), AllocError>
     requires area { IsAreaOf grid.old area }
     ensures painted { OnOk result (IsPaintedOn area
-        (λ col row. tile_after (listed_at lists.now col row)) grid.old grid.new) }
+        (waiting_tile on.entry.width on.entry.height on.entry.commands.now lists.now)
+        grid.old grid.new) }
     ensures err { OnErr result (grid.new ≡ grid.old) }
     ensures tiles_rise { tiles.old ≤ tiles.new }
     ensures few_tiles { tiles.new ≤ tiles.old + cells_of area }
 {
     grid.known();
-    grid.paint_area(area, &OpsPainter { lists }, tiles)
+    grid.paint_area(area, &OpsPainter { on, lists }, tiles)
 }
 
 /// Paints what waits on the cells of an area. None waits there then.
@@ -61,6 +63,7 @@ pub(crate) fn paint_lists<T: Ledger>(
 /// The grid is as it was, and the operations wait.
 pub(crate) fn settle<T: Ledger>(
     grid: &mut Grid,
+    on: Sheet<'_>,
     lists: &mut TileLists,
     area: CellArea,
     tiles: &mut Steps<T>,
@@ -68,7 +71,8 @@ pub(crate) fn settle<T: Ledger>(
     requires area { IsAreaOf grid.old area }
     requires first { lists.old.first ≤ area.top }
     ensures painted { OnOk result (IsPaintedOn area
-        (λ col row. tile_after (listed_at lists.old col row)) grid.old grid.new) }
+        (waiting_tile on.entry.width on.entry.height on.entry.commands.now lists.old)
+        grid.old grid.new) }
     ensures none { OnOk result
         (IsChangedOn area (IsFinished Finish.Clear) lists.old lists.new) }
     ensures err { OnErr result (grid.new ≡ grid.old) }
@@ -77,7 +81,7 @@ pub(crate) fn settle<T: Ledger>(
     ensures few_tiles { tiles.new ≤ tiles.old + cells_of area }
 {
     grid.known();
-    paint_lists(grid, lists, area, tiles)?;
+    paint_lists(grid, on, lists, area, tiles)?;
     lists.finish(area, Finish::Clear);
     Ok(())
 }
@@ -108,7 +112,12 @@ fn paint_stroke<T: Ledger>(
     grid.known();
     let mut lists = TileLists::new(grid.alloc(), area.top);
     file(&mut lists, grid.alloc(), command, area)?;
-    paint_lists(grid, &lists, area, tiles)
+    let on = Sheet {
+        width,
+        height,
+        commands: &[],
+    };
+    paint_lists(grid, on, &lists, area, tiles)
 }
 
 /// Paints a command on a grid. Tiles are made before the first is painted.

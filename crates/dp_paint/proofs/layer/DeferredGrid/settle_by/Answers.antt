@@ -1,0 +1,32 @@
+use Rattle.std.proofs.Common.{[], ◌∙◌, ap, arith, sym}
+use Rattle.dp_paint.specs.Lists.{Lists}
+use Rattle.dp_paint.proofs.Counts.{waiting_few}
+use Rattle.dp_paint.proofs.Layers.{no_lists, same_layer}
+use Rattle.dp_paint.proofs.Bands.{none_waits}
+use Rattle.dp_paint.proofs.layer.DeferredGrid.settle_by.Goals as goal
+
+pub returns-clause-same : goal.returns-clause-same
+returns-clause-same g c =
+    let inside = c.self.inside in
+    let is_of = c.self.invariant.0 in
+    same_layer c.args.self.now inside.width inside.height [] inside.lists c.new.result inside.grid
+    c.settle_all.new.grid c.self.view_is
+    (no_lists inside.width inside.height [] c.new.result c.settle_all.new.grid
+    (ap (λ (l : Lists). l.lists) c.new.ensures)
+    ∙ sym (none_waits inside.width inside.height [] c.settle_all.new.lists c.settle_all.new.grid
+    is_of.wide is_of.high c.in_ok-settle_all.ensures.none)
+    ∙ c.in_ok-settle_all.ensures.same)
+
+pub returns-clause-few_tiles : goal.returns-clause-few_tiles
+returns-clause-few_tiles g c =
+    omega (arith, c.in_ok-settle_all.ensures.few_tiles, waiting_few c.self.inside.lists 4096)
+
+pub returns-in_err-settle_all-clause-same : goal.returns-in_err-settle_all-clause-same
+returns-in_err-settle_all-clause-same g c =
+    let inside = c.self.inside in
+    same_layer c.args.self.now inside.width inside.height [] inside.lists c.settle_all.new.lists
+    inside.grid c.settle_all.new.grid c.self.view_is c.settle_all.ensures.same
+
+pub returns-in_err-settle_all-clause-few_tiles : goal.returns-in_err-settle_all-clause-few_tiles
+returns-in_err-settle_all-clause-few_tiles g c =
+    omega (arith, c.settle_all.ensures.few_tiles, waiting_few c.self.inside.lists 4096)
