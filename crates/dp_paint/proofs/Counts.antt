@@ -89,7 +89,12 @@ inside_before area (suc n) = inside_before area n + inside area n
 
 inside_suc : (area : CellArea) (n : ℕ)
     → inside_before area (suc n) ≡ inside_before area n + inside area n
+unfolding inside_before
 inside_suc area n = refl
+
+inside_zero : (area : CellArea) → inside_before area zero ≡ 0
+unfolding inside_before
+inside_zero area = refl
 
 module _ (area : CellArea) (n : ℕ) where
   in_area : is_in_cells area (n % 64) (n / 64) ≡ true → inside area n ≡ 1
@@ -122,7 +127,7 @@ module _ (area : CellArea) (old new : Lists)
       (cases_Bool (is_in_cells area (n % 64) (n / 64)))
 
   all_more : (n : ℕ) → tiles_waiting new n ≤ tiles_waiting old n + inside_before area n
-  all_more zero = omega (arith, waiting_zero new)
+  all_more zero = omega (arith, waiting_zero new, inside_zero area)
   all_more (suc n) =
       omega (arith, waiting_suc new n, waiting_suc old n, inside_suc area n, all_more n, one_more n)
 
@@ -181,24 +186,28 @@ rows_inside : (area : CellArea) (row : ℕ)
     → inside_before area (row * 64)
     ≤ (min row area.bottom - area.top) * (area.right - area.left)
 rows_inside area zero =
-    let none : inside_before area (zero * 64) ≡ 0 = refl in omega (arith, none)
+    let at : zero * 64 ≡ zero = omega arith in
+    omega (arith, inside_zero area, ap (inside_before area) at)
 rows_inside area (suc row) =
     let w = area.right - area.left in
     let at : suc row * 64 ≡ row * 64 + 64 = omega arith in
     let before = rows_inside area row in
-    rw at (⊎_elim (λ above.
+    let full : 64 ≤ 64 = omega arith in
+    rw at (⊎_elim (λ (above : row < area.top).
     let same : min (suc row) area.bottom - area.top ≡ min row area.bottom - area.top =
     omega (arith, above) in
-    rw same (omega (arith, before, out_of_rows area row (inl above) 64 (omega arith))))
-    (λ from. ⊎_elim (λ to.
+    let none = out_of_rows area row (inl above) 64 full in
+    rw same (omega (arith, before, none)))
+    (λ (from : area.top ≤ row). ⊎_elim (λ (to : row < area.bottom).
     let more : min (suc row) area.bottom - area.top ≡ min row area.bottom - area.top + 1 =
     omega (arith, from, to) in
-    rw (more, one_more_row (min row area.bottom - area.top) w)
-    (omega (arith, before, in_row area row 64 (omega arith))))
-    (λ below.
+    let some = in_row area row 64 full in
+    rw (more, one_more_row (min row area.bottom - area.top) w) (omega (arith, before, some)))
+    (λ (below : area.bottom ≤ row).
     let same : min (suc row) area.bottom - area.top ≡ min row area.bottom - area.top =
     omega (arith, below) in
-    rw same (omega (arith, before, out_of_rows area row (inr below) 64 (omega arith))))
+    let none = out_of_rows area row (inr below) 64 full in
+    rw same (omega (arith, before, none)))
     (cases_lt row area.bottom))
     (cases_lt row area.top))
 

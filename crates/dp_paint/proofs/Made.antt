@@ -1,10 +1,11 @@
 -- Tiles that are painted by jobs.
 use Rattle.std.proofs.Common.{◌≡◌, ℕ, zero, suc, ◌+◌, ◌-◌, ◌*◌, ◌/◌, ◌%◌, ◌<◌, ◌≤◌, List, [], ◌∷◌}
-use Rattle.std.proofs.Common.{◌++◌, length, get_or, take, ap, sym, ◌∙◌, refl, arith, ⊎_elim}
+use Rattle.std.proofs.Common.{◌++◌, length, get_or, take, drop, ap, sym, ◌∙◌, refl, arith, ⊎_elim}
 use Rattle.std.proofs.Common.{cond, true, false, ◌&&◌, leb, ltb, eqb, length-append}
 use Rattle.std.specs.Prelude.{All}
 use Rattle.std.proofs.lemmas.Bool.{and_parts, cases_eq, cond-false, cond-true, eq-eqb, eqb-true}
 use Rattle.std.proofs.lemmas.Bool.{false_from_ne_true, le-leb, leb-true, lt-ltb, ltb-true, ne_eqb}
+use Rattle.std.proofs.lemmas.List.{append-nil, drop_all, take_all}
 use Rattle.std.proofs.lemmas.List.Elements.{All-head, All-push, All-tail, All-weaker}
 use Rattle.dp_blend.specs.Color.{Channels, clear}
 use Rattle.dp_pixels.proofs.SpanLemmas.{same_test}
@@ -359,12 +360,12 @@ in_band top col row in_cols =
     ) refl)
 
 -- the grid after the jobs of a band of rows
-pub band_done : (painted : Painted) (top : ℕ) (old now new : TileGrid) (made ran : List TileWork)
-    → IsGrid old → AreMade painted (top * 64) (top * 64 + 512) old now made
-    → length ran ≡ length made
-    → ((k : ℕ) (d : TileWork) → k < length made → IsRun (get_or made k d) (get_or ran k d))
+pub band_done : (painted : Painted) (top : ℕ) (old now new : TileGrid)
+    (made from ran : List TileWork) → from ≡ made → IsGrid old
+    → AreMade painted (top * 64) (top * 64 + 512) old now made → length ran ≡ length from
+    → ((k : ℕ) (d : TileWork) → k < length from → IsRun (get_or from k d) (get_or ran k d))
     → AreWritten ran now new → IsPaintedOn (band_at top) painted old new
-band_done painted top old now new made ran grid are as_many each written =
+band_done painted top old now new made from ran same grid are as_many each written =
     let now_cols = are.cols in
     let now_rows = are.rows in
     let wide = grid.cols in record {
@@ -373,7 +374,8 @@ band_done painted top old now new made ran grid are as_many each written =
       cells = λ col row in_cols in_rows.
           written.cells col row (omega (arith, in_cols, now_cols))
           (omega (arith, in_rows, now_rows))
-          ∙ ran_same made ran as_many each col row (cell_at now col row)
+          ∙ ran_same from ran as_many each col row (cell_at now col row)
+          ∙ ap (λ (jobs : List TileWork). work_at jobs col row (cell_at now col row)) same
           ∙ are.cells col row in_cols in_rows
           ∙ ap (λ t. cond t (painted col row (cell_at old col row)) (cell_at old col row))
           (in_band top col row (omega (arith, in_cols, wide)));
@@ -404,3 +406,12 @@ pub cell_long : (g : TileGrid) → IsGrid g → (col row : ℕ) → col < g.cols
     → length (cell_at g col row) ≡ 4096
 cell_long g is col row in_cols in_rows =
     is.pixels (row * g.cols + col) (tile_of clear) (place_inside g is col row in_cols in_rows)
+
+-- a list that was lent as a slice and came back
+pub lent_back : (old new : List TileWork) (len : ℕ) → length new ≡ length old
+    → len ≡ length old → take len (new ++ drop (length new) old) ≡ new
+lent_back old new len as_many is =
+    ap (λ (rest : List TileWork). take len (new ++ rest))
+    (drop_all (length new) old (omega (arith, as_many)))
+    ∙ ap (take len) (append-nil new)
+    ∙ take_all len new (omega (arith, as_many, is))
