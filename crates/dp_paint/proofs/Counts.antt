@@ -21,7 +21,7 @@ at_most_one false = omega arith
 pub waits_one : (l : Lists) (n : ℕ) → waits_on l n ≤ 1
 waits_one l n = at_most_one (eqb (length (listed_at l (n % 64) (n / 64))) 0)
 
--- before the next number there is one more, where something waits
+-- before the next number there is one more, if something waits
 pub waiting_suc : (l : Lists) (n : ℕ)
     → tiles_waiting l (suc n) ≡ tiles_waiting l n + waits_on l n
 unfolding tiles_waiting
@@ -64,7 +64,7 @@ pub waits_same : (l m : Lists) (n : ℕ)
     → listed_at l (n % 64) (n / 64) ≡ listed_at m (n % 64) (n / 64) → waits_on l n ≡ waits_on m n
 waits_same l m n same = ap (λ (ops : List TileOp). cond (eqb (length ops) 0) 0 1) same
 
--- where the same wait, there are as many
+-- if the same wait, there are as many
 pub waiting_same : (l m : Lists) (a n : ℕ)
     → ((k : ℕ) → a ≤ k → k < a + n → waits_on l k ≡ waits_on m k)
     → tiles_waiting l (a + n) + tiles_waiting m a ≡ tiles_waiting m (a + n) + tiles_waiting l a

@@ -29,7 +29,7 @@ use std::alloc::AllocError;
 use std::sync::ledger::Ledger;
 use std::thread::Threads;
 
-/// How many threads may work at the same time, where 0 is 1, and the gate that their jobs pass,
+/// How many threads may work at the same time, if 0 is 1, and the gate that their jobs pass,
 /// each by its place and 0.
 #[derive(Drop)]
 pub struct Workers<'a, G> {
@@ -206,7 +206,7 @@ fn paint_part<R: Threads + Sync, G: Gate, T: Ledger>(
 const PART: usize = 65536;
 
 /// The grid after commands, painted by workers: a job for each tile that one of them reaches, or
-/// none where the tile is known to become of one colour. The room of the new tiles is taken before
+/// none if the tile is known to become of one colour. The room of the new tiles is taken before
 /// the workers start. The other grid keeps its tiles.
 ///
 /// # Errors
