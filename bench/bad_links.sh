@@ -2,7 +2,8 @@
 # Two painters beside 64 links that are silent, bad, cut, reset, slow, deaf or that only ping, over
 # real sockets: bench/bad_links.py. It fails where one isn't served, and where the pictures of what
 # both were sent differ from each other, or from that of a client that joins at the end.
-# DRAWPILE is the program, else bin/drawpile; PORT another port than 7747; PAINT_SECONDS how long they paint.
+# DRAWPILE is the program, else bin/drawpile; PORT another port than 7747; PAINT_SECONDS how long
+# they paint.
 set -eu
 cd "$(dirname "$0")/.."
 port=${PORT:-7747}
@@ -33,7 +34,8 @@ work = sys.argv[1]
 text = open(f'{work}/eve').read()
 eve = [int(word) for word in text[text.index('P3\n') + 3:].split()]
 data = open(f'{work}/ann.ppm', 'rb').read().split(b'\n', 3)
-assert eve[:2] == [int(word) for word in data[1].split()] and eve[3:] == list(data[3]), 'eve has another picture'
+sides = [int(word) for word in data[1].split()]
+assert eve[:2] == sides and eve[3:] == list(data[3]), 'eve has another picture'
 PY
 kill -0 "$server"
 echo "the painters' pictures are equal, and a client that joined then has the same"

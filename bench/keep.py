@@ -51,7 +51,7 @@ class Observer:
 
     def take(self, kind, payload):
         if not self.welcomed:
-            assert kind == 1, "the first frame is the Welcome"
+            assert kind == 4, "the first frame is the Welcome"
             self.welcomed = True
             return
         if kind == 37:

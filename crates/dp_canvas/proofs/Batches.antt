@@ -8,13 +8,13 @@ use Rattle.std.proofs.lemmas.List.Sums.{fold-append, sum_by-append, sum_by-take-
 use Rattle.dp_blend.specs.Color.{Channels, IsPixel}
 use Rattle.dp_msg_draw.specs.declared.draw.Draw.{Draw}
 use Rattle.dp_layers.specs.Rows.{content_of}
-use Rattle.dp_paint.specs.Painting.{IsPainting}
+use Rattle.dp_paint.specs.Painting.{IsPainting, pixels_after_all}
 use Rattle.dp_pixels.specs.Feet.{reach}
 use Rattle.dp_plain.specs.Board.{Board, HasPixels}
 use Rattle.dp_plain.specs.Commands.{draw, draw_all, painted_layer}
 use Rattle.dp_plain.proofs.Holds.{fit_found}
 use Rattle.dp_tile.specs.Tiles.{TileGrid, grid_pixels}
-use Rattle.dp_canvas.specs.Batches.{PaintsOn, pixels_after_all}
+use Rattle.dp_canvas.specs.Batches.{PaintsOn}
 
 -- ---- a run on one layer
 

@@ -8,9 +8,9 @@ ghost use Rattle.dp_pixels.specs.Feet.{reach};
 ghost use Rattle.dp_plain.specs.Commands.{draw_all};
 
 use crate::canvas::Canvas;
-use crate::painting::{Workers, paint};
 use dp_board::Board;
 use dp_msg_draw::Draw;
+use dp_paint::{Workers, paint};
 use dp_pixels::pixels_stay_pixels;
 use dp_plain::{BoardView, known_commands, runs_change_one_layer};
 use dp_steps::Steps;

@@ -12,13 +12,13 @@ ghost use Rattle.dp_plain.specs.Commands.{draw, draw_all};
 ghost use Rattle.dp_tile.specs.Tiles.{grid_pixels};
 
 use crate::batch::draw_in_order;
-use crate::painting::Workers;
 use crate::tiled::TiledPixels;
 use dp_blank::BlankBoard;
 use dp_blend::Pixel;
 use dp_board::Board;
 use dp_layers::LayerRow;
 use dp_msg_draw::Draw;
+use dp_paint::Workers;
 use dp_plain::{BoardView, LayeredBoard};
 use dp_steps::Steps;
 use dp_tile::Grid;

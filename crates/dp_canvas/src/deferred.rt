@@ -1,15 +1,19 @@
 //! The board on which `replay` and `play` draw: small fills and dabs wait until tiles are read.
 
+ghost use Rattle.std.specs.Prelude.{◌≡◌, ◌+◌, ◌≤◌};
+
 use dp_blend::Pixel;
 use dp_layers::Share;
 use dp_msg_draw::Draw;
-use dp_paint::DeferredGrid;
+use dp_paint::{DeferredGrid, Workers};
 use dp_pixels::{Resize, pixels_stay_pixels};
 use dp_plain::{LayerPixels, LayeredBoard, known_colors};
 use dp_steps::Steps;
+use dp_wire::Gate;
 use std::alloc::{AllocError, Global};
 use std::marker::Model;
 use std::sync::ledger::Ledger;
+use std::thread::Threads;
 
 /// A board for pictures: small fills and dabs wait, and each tile is painted by all of them when it
 /// is read.
@@ -27,6 +31,31 @@ impl Model for DeferredPixels {
     ghost Value = { LayerOf };
 
     ghost view = { λ d. d.layer };
+}
+
+impl DeferredPixels {
+    /// Whether half as much waits as may wait.
+    pub(crate) fn is_half_full(&self) -> bool {
+        self.layer.is_half_full()
+    }
+
+    /// Paints all that waits, by workers.
+    ///
+    /// # Errors
+    ///
+    /// The pixels are the same, and tiles that were made are counted.
+    pub(crate) fn settle_by<R: Threads + Sync, G: Gate, T: Ledger>(
+        &mut self,
+        rt: &R,
+        workers: &Workers<'_, G>,
+        tiles: &mut Steps<T>,
+    ) -> Result<(), AllocError>
+        ensures same { self.new ≡ self.old }
+        ensures tiles_rise { tiles.old ≤ tiles.new }
+        ensures few_tiles { tiles.new ≤ tiles.old + 4096 }
+    {
+        self.layer.settle_by(rt, workers, tiles)
+    }
 }
 
 impl Share for DeferredPixels {

@@ -2,3 +2,4 @@ pub mod Follows
 pub mod RoundKinds
 pub mod Schedules
 pub mod Sums
+pub mod Uplinks

@@ -99,9 +99,9 @@ takes-played counts =
 
 -- ---- takes make nothing of a flow
 
-take-made : (f : Flow) (client : ℕ) → flow_after f (Act client Take) ≡ f
+pub take_made : (f : Flow) (client : ℕ) → flow_after f (Act client Take) ≡ f
 unfolding flow_after
-take-made f client = by_client (numbered f.uplinks client)
+take_made f client = by_client (numbered f.uplinks client)
   where
     by_client : (o : Option (List Msg)) → option_map_or (instructed f client Take) o f ≡ f
     by_client None = refl
@@ -110,7 +110,7 @@ take-made f client = by_client (numbered f.uplinks client)
 pub takes-made : (f : Flow) (client n : ℕ) → fold flow_after f (replicate n (Act client Take)) ≡ f
 takes-made f client zero = refl
 takes-made f client (suc n) =
-    ap (λ g. fold flow_after g (replicate n (Act client Take))) (take-made f client)
+    ap (λ g. fold flow_after g (replicate n (Act client Take))) (take_made f client)
     ∙ takes-made f client n
 
 all-taken : (f : Flow) (counts : ℕ → ℕ)

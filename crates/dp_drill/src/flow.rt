@@ -126,7 +126,8 @@ impl Flow {
         if !self.has(client) {
             return Ok(());
         }
-        self.uplinks[client as usize - 1].push(msg)
+        self.uplinks[client as usize - 1].push(msg)?;
+        Ok(())
     }
 
     /// The client's uplink sends its first message, if there is one.

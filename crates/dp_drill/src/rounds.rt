@@ -98,6 +98,7 @@ fn round_brush(s: u64, v: u64) -> Brush
 }
 
 /// What a client does in a round of this kind. What it takes leaves the session as it is.
+#[tactic(auto, using(crate::proofs::Schedules::take_made))]
 fn do_round(
     alloc: Global,
     flow: &mut Flow,

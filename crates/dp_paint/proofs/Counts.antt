@@ -21,7 +21,7 @@ at_most_one false = omega arith
 pub waits_one : (l : Lists) (n : ℕ) → waits_on l n ≤ 1
 waits_one l n = at_most_one (eqb (length (listed_at l (n % 64) (n / 64))) 0)
 
--- before the next number there is one more, where something waits
+-- before the next number there is one more, if something waits
 pub waiting_suc : (l : Lists) (n : ℕ)
     → tiles_waiting l (suc n) ≡ tiles_waiting l n + waits_on l n
 unfolding tiles_waiting
@@ -64,7 +64,7 @@ pub waits_same : (l m : Lists) (n : ℕ)
     → listed_at l (n % 64) (n / 64) ≡ listed_at m (n % 64) (n / 64) → waits_on l n ≡ waits_on m n
 waits_same l m n same = ap (λ (ops : List TileOp). cond (eqb (length ops) 0) 0 1) same
 
--- where the same wait, there are as many
+-- if the same wait, there are as many
 pub waiting_same : (l m : Lists) (a n : ℕ)
     → ((k : ℕ) → a ≤ k → k < a + n → waits_on l k ≡ waits_on m k)
     → tiles_waiting l (a + n) + tiles_waiting m a ≡ tiles_waiting m (a + n) + tiles_waiting l a
@@ -89,7 +89,12 @@ inside_before area (suc n) = inside_before area n + inside area n
 
 inside_suc : (area : CellArea) (n : ℕ)
     → inside_before area (suc n) ≡ inside_before area n + inside area n
+unfolding inside_before
 inside_suc area n = refl
+
+inside_zero : (area : CellArea) → inside_before area zero ≡ 0
+unfolding inside_before
+inside_zero area = refl
 
 module _ (area : CellArea) (n : ℕ) where
   in_area : is_in_cells area (n % 64) (n / 64) ≡ true → inside area n ≡ 1
@@ -122,7 +127,7 @@ module _ (area : CellArea) (old new : Lists)
       (cases_Bool (is_in_cells area (n % 64) (n / 64)))
 
   all_more : (n : ℕ) → tiles_waiting new n ≤ tiles_waiting old n + inside_before area n
-  all_more zero = omega (arith, waiting_zero new)
+  all_more zero = omega (arith, waiting_zero new, inside_zero area)
   all_more (suc n) =
       omega (arith, waiting_suc new n, waiting_suc old n, inside_suc area n, all_more n, one_more n)
 
@@ -181,24 +186,28 @@ rows_inside : (area : CellArea) (row : ℕ)
     → inside_before area (row * 64)
     ≤ (min row area.bottom - area.top) * (area.right - area.left)
 rows_inside area zero =
-    let none : inside_before area (zero * 64) ≡ 0 = refl in omega (arith, none)
+    let at : zero * 64 ≡ zero = omega arith in
+    omega (arith, inside_zero area, ap (inside_before area) at)
 rows_inside area (suc row) =
     let w = area.right - area.left in
     let at : suc row * 64 ≡ row * 64 + 64 = omega arith in
     let before = rows_inside area row in
-    rw at (⊎_elim (λ above.
+    let full : 64 ≤ 64 = omega arith in
+    rw at (⊎_elim (λ (above : row < area.top).
     let same : min (suc row) area.bottom - area.top ≡ min row area.bottom - area.top =
     omega (arith, above) in
-    rw same (omega (arith, before, out_of_rows area row (inl above) 64 (omega arith))))
-    (λ from. ⊎_elim (λ to.
+    let none = out_of_rows area row (inl above) 64 full in
+    rw same (omega (arith, before, none)))
+    (λ (from : area.top ≤ row). ⊎_elim (λ (to : row < area.bottom).
     let more : min (suc row) area.bottom - area.top ≡ min row area.bottom - area.top + 1 =
     omega (arith, from, to) in
-    rw (more, one_more_row (min row area.bottom - area.top) w)
-    (omega (arith, before, in_row area row 64 (omega arith))))
-    (λ below.
+    let some = in_row area row 64 full in
+    rw (more, one_more_row (min row area.bottom - area.top) w) (omega (arith, before, some)))
+    (λ (below : area.bottom ≤ row).
     let same : min (suc row) area.bottom - area.top ≡ min row area.bottom - area.top =
     omega (arith, below) in
-    rw same (omega (arith, before, out_of_rows area row (inr below) 64 (omega arith))))
+    let none = out_of_rows area row (inr below) 64 full in
+    rw same (omega (arith, before, none)))
     (cases_lt row area.bottom))
     (cases_lt row area.top))
 

@@ -35,7 +35,7 @@ use Rattle.dp_paint.proofs.Waits.{inside_by, inside_facts}
 
 -- ---- fills
 
--- a place of a tile is filled where the rectangle has it
+-- a place of a tile is filled if the rectangle has it
 pub fill_met : (f : TileFill) (x y w h col row i j : ℕ)
     → (f.left ≤ i → i < f.right → (x ≤ col * 64 + i) × (col * 64 + i < x + w))
     → (x ≤ col * 64 + i → col * 64 + i < x + w → (f.left ≤ i) × (i < f.right))
@@ -91,7 +91,7 @@ module _ (dab : PlacedDab) (size : dab.size < 256) (col row i j : ℕ) (in_x : i
   abbrev tile : Rect
   tile = dab_rect (on_tile dab col row)
 
-  -- where it is met it wasn't moved
+  -- if it is met it wasn't moved
   record IsMet : Type 0 where
     across : tile_place dab.at.x col ≡ dab.at.x -ℤ pos (col * 64)
     down : tile_place dab.at.y row ≡ dab.at.y -ℤ pos (row * 64)
@@ -257,7 +257,7 @@ adds_none among area f lists keeps = record {
   outside = λ col row few out. refl;
 }
 
--- one change after another, which is added where it changes something
+-- one change after another, which is added if it changes something
 pub adds_then : (among : OnTile → Type 0) (area met : CellArea)
     (f g both : ℤ → ℤ → Channels → Channels)
     (old now new : Lists)

@@ -66,7 +66,7 @@ same_pixels width height commands old new g wide same =
     (x % 64) (y % 64) (grid_pixel g x y))
     (same (x / 64) (y / 64) (omega (arith, in_x, wide))))
 
--- nothing waits where there is no list
+-- nothing waits if there is no list
 nothing : (lists : Lists) → lists.lists ≡ [] → (col row : ℕ) → listed_at lists col row ≡ []
 nothing lists none col row = rw none (either (leb lists.first row))
   where
@@ -456,7 +456,7 @@ FootTellsAll = (width height : ℕ) (op : Draw) (old other : ℤ → ℤ → Cha
     → IsTrue (is_in_foot (foot op) v w) → old v w ≡ other v w)
     → drawn width height op old x y ≡ drawn width height op other x y
 
--- a command that was drawn on the grid, where nothing waits on the cells of its foot
+-- a command that was drawn on the grid, if nothing waits on the cells of its foot
 module _ (width height : ℕ) (commands : List Draw) (op : Draw) (stays : StaysOutside)
     (tells : FootTellsAll)
     (wide : width ≤ 4096) (high : height ≤ 4096) (area : CellArea) (lists : Lists)

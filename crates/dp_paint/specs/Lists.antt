@@ -1,5 +1,5 @@
 -- Operations that wait for the tiles of a grid.
-use Rattle.std.specs.Prelude.{◌≡◌, ℕ, zero, suc, ◌==◌, ◌+◌, ◌-◌, ◌*◌, ◌/◌, ◌%◌, ◌<◌, ◌≤◌, pos, ℤ}
+use Rattle.std.specs.Prelude.{◌≡◌, ℕ, ◌==◌, ◌+◌, ◌-◌, ◌*◌, ◌/◌, ◌%◌, ◌<◌, ◌≤◌, pos, ℤ}
 use Rattle.std.specs.Prelude.{nat_le, if◌then◌else◌, List, [], ◌++◌, length, slice_index_or}
 use Rattle.std.specs.Prelude.{slice_get, Some}
 use Rattle.dp_blend.specs.Color.{Channels}
@@ -44,7 +44,7 @@ pub record LayerOf : Type 0 where
   pub pixels : List Channels
 
 -- the pixels of the tile at a column and a row of a canvas of these sides, after all that waits on
--- it, where these commands are numbered
+-- it, if these commands are numbered
 abbrev pub waiting_tile : ℕ → ℕ → List Draw → Lists → ℕ → ℕ → List Channels → List Channels
 waiting_tile width height commands lists col row =
     tile_after (on_tile width height commands col row) (listed_at lists col row)
@@ -73,13 +73,13 @@ pub record IsInside (area : CellArea) (col row : ℕ) : Type 0 where
 abbrev pub anywhere : OnTile → Type 0
 anywhere t = Unit {0}
 
--- on a tile of a canvas of these sides where the command has this number
+-- on a tile of a canvas of these sides if the command has this number
 pub record IsNumbered (wide high number : ℕ) (command : Draw) (t : OnTile) : Type 0 where
   pub width : t.width ≡ wide
   pub height : t.height ≡ high
   pub numbered : slice_get t.commands number ≡ Some command
 
--- a command was filed: the lists of the cells of an area draw it more, where the tiles are among
+-- a command was filed: the lists of the cells of an area draw it more, if the tiles are among
 -- some, and all others stay
 pub record IsFiled (among : OnTile → Type 0) (command : Draw) (area : CellArea) (old new : Lists)
     : Type 0 where
@@ -142,11 +142,6 @@ AddsMore among change col row old new =
     → ops_at t new.more i j p
     ≡ change (pos (col * 64 + i)) (pos (row * 64 + j)) (ops_at t old.more i j p))
 
--- 1 if operations wait on the tile of a number, where those of each row have 64 numbers, and else 0
+-- 1 if operations wait on the tile of a number, if those of each row have 64 numbers, and else 0
 abbrev pub waits_on : Lists → ℕ → ℕ
 waits_on l number = if length (listed_at l (number % 64) (number / 64)) == 0 then 0 else 1
-
--- on how many of the tiles before the one of a number operations wait
-pub waiting_before : Lists → ℕ → ℕ
-waiting_before l zero = 0
-waiting_before l (suc number) = waiting_before l number + waits_on l number

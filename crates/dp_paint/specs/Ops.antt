@@ -33,7 +33,7 @@ abbrev pub dab_in_tile : TileDab → PlacedDab
 dab_in_tile d =
     record { at = record { x = d.x; y = d.y }; size = d.size; opacity = d.opacity }
 
--- where operations stand: the commands that they number, on a canvas of these sides, and the column
+-- if operations stand: the commands that they number, on a canvas of these sides, and the column
 -- and the row of the tile
 pub record OnTile : Type 0 where
   pub width : ℕ

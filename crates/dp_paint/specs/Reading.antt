@@ -53,7 +53,7 @@ tile_from pixel col row =
 abbrev pub cleared : Rect → (ℤ → ℤ → Channels) → ℤ → ℤ → Channels
 cleared source pixel x y = if is_in source x y then clear else pixel x y
 
--- the pixel i of a row, on which the old one i places after a place is blended, where that is in a
+-- the pixel i of a row, on which the old one i places after a place is blended, if that is in a
 -- rectangle
 abbrev pub lifted : Rect → ℤ → ℤ → (ℤ → ℤ → Channels) → (ℕ → Channels) → ℕ → Channels
 lifted source x y old under i =

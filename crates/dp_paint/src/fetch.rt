@@ -71,7 +71,7 @@ pub(crate) struct Fill {
 }
 
 impl Fill {
-    /// Fetches its pixels in the tile at a column and a row, where it is narrow. The answer is no.
+    /// Fetches its pixels in the tile at a column and a row, if it is narrow. The answer is no.
     pub(crate) fn fetch(self, col: u32, row: u32, pixels: &[Pixel]) -> bool
         requires col { col < 64 }
         requires row { row < 64 }

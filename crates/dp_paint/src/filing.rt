@@ -55,7 +55,7 @@ pub(crate) struct RectFill {
 }
 
 /// Of the 64 numbers of a tile's side, those among `len` from `from` on: the first of them and the
-/// first after them, counted from the side's first. There is none where the second isn't above the
+/// first after them, counted from the side's first. There is none if the second isn't above the
 /// first.
 #[inline(always)]
 fn part_of_side(tile: u32, from: u32, len: u32) -> (u8, u8)

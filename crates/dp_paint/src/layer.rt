@@ -336,7 +336,7 @@ impl DeferredGrid {
         })
     }
 
-    /// The colour of the tile at a column and a row, where it is of one and that is known without
+    /// The colour of the tile at a column and a row, if it is of one and that is known without
     /// reading it.
     pub fn tile_color(&self, col: u32, row: u32) -> Option<Pixel>
         requires across { col * 64 < self.now.width }
@@ -352,7 +352,7 @@ impl DeferredGrid {
         }
     }
 
-    /// Reads the tile at a column and a row: gives its colour, where it is known to be of one, and
+    /// Reads the tile at a column and a row: gives its colour, if it is known to be of one, and
     /// else leaves its pixels, row by row. Past the canvas it may hold anything.
     pub fn read_tile(&self, col: u32, row: u32, pixels: &mut [Pixel]) -> Option<Pixel>
         requires across { col * 64 < self.now.width }

@@ -148,7 +148,7 @@ impl TileLists {
         (row - self.first) as usize * 64 + col as usize
     }
 
-    /// Makes the lists of the rows before this one, where they aren't there yet.
+    /// Makes the lists of the rows before this one, if they aren't there yet.
     #[inline(always)]
     pub(crate) fn grow(&mut self, alloc: Global, bottom: u32) -> Result<(), AllocError>
         requires first { self.old.first ≤ bottom }

@@ -131,7 +131,7 @@ impl Moved<'_> {
         lay_row(lifted, row);
     }
 
-    /// Blends the old pixels that begin at a place on those of a row, where they are of the source.
+    /// Blends the old pixels that begin at a place on those of a row, if they are of the source.
     fn lay_source(self, x: i64, y: i64, row: &mut [Pixel])
         requires x { unsigned_abs x < 2 ^ 39 }
         requires y { unsigned_abs y < 2 ^ 39 }

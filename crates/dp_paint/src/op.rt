@@ -176,7 +176,7 @@ pub(crate) enum TileOp {
 }
 
 impl TileOp {
-    /// The pixel at a column and a row of the tile after it, of the old one there, where no command
+    /// The pixel at a column and a row of the tile after it, of the old one there, if no command
     /// has a number.
     pub(crate) fn pixel_after(self, x: u32, y: u32, old: Pixel) -> Pixel
         requires x { x < 64 }

@@ -68,7 +68,7 @@ impl CommandPainter<'_> {
     }
 
     /// What a fill does to each tile of a row, from the column `left` on before `right`, of which
-    /// all pixels are of this colour. It may be met in part where the colour stays.
+    /// all pixels are of this colour. It may be met in part if the colour stays.
     fn fill_change(&self, row: u32, left: u32, right: u32, color: Pixel) -> TileChange
         requires row { row < 64 }
         requires order { left < right }

@@ -29,7 +29,7 @@ use std::alloc::AllocError;
 use std::sync::ledger::Ledger;
 use std::thread::Threads;
 
-/// How many threads may work at the same time, where 0 is 1, and the gate that their jobs pass,
+/// How many threads may work at the same time, if 0 is 1, and the gate that their jobs pass,
 /// each by its place and 0.
 #[derive(Drop)]
 pub struct Workers<'a, G> {
@@ -85,7 +85,8 @@ pub(crate) fn settle_all<R: Threads + Sync, G: Gate, T: Ledger>(
     ensures grid { IsGridOf on.entry.width on.entry.height grid.new }
     ensures first { lists.new.first ≡ 0 }
     ensures counts { AllCount lists.new }
-    ensures same { layer_pixels on.entry.width on.entry.height on.entry.commands.now lists.new grid.new
+    ensures same { layer_pixels on.entry.width on.entry.height on.entry.commands.now lists.new
+        grid.new
         ≡ layer_pixels on.entry.width on.entry.height on.entry.commands.now lists.old grid.old }
     ensures none { OnOk result
         ((col row : ℕ) → col < 64 → row < 64 → listed_at lists.new col row ≡ []) }
@@ -205,7 +206,7 @@ fn paint_part<R: Threads + Sync, G: Gate, T: Ledger>(
 const PART: usize = 65536;
 
 /// The grid after commands, painted by workers: a job for each tile that one of them reaches, or
-/// none where the tile is known to become of one colour. The room of the new tiles is taken before
+/// none if the tile is known to become of one colour. The room of the new tiles is taken before
 /// the workers start. The other grid keeps its tiles.
 ///
 /// # Errors

@@ -1,12 +1,14 @@
-//! Pictures whose rows of tiles are drawn by workers.
+//! Pictures whose rows of tiles are drawn by workers, and tiles that they paint.
 
 ghost use Rattle.std.specs.Prelude.{◌≡◌, ◌<◌};
 
 use crate::pictures::{board_of, create, resize};
+use dp_blend::{Pixel, of_argb};
+use dp_canvas::{Canvas, Workers};
 use dp_flat::{write_p6, write_p6_by};
 use dp_io::MemSink;
 use dp_msg_draw::Draw;
-use dp_plain::PlainBoard;
+use dp_plain::{BoardView, PlainBoard};
 use dp_steps::Steps;
 use dp_wire::Gate;
 use std::alloc::Global;
@@ -109,6 +111,61 @@ fn check_workers<R: Threads + Sync + Abort, D: Ledger, T: Ledger>(
     assert!(rt; gives_up(rt, alloc, &board, 1, want));
     assert!(rt; !gives_up(rt, alloc, &board, 2, want));
     assert!(rt; !gives_up(rt, alloc, &board, 7, want));
+}
+
+/// Has so many workers paint two fills in a batch, each on a tile of its own. Says whether the gate
+/// gave up.
+fn paints_in_turn<R: Threads + Sync + Abort, D: Ledger, T: Ledger>(
+    rt: &R,
+    alloc: Global,
+    count: u32,
+    draws: &mut Steps<D>,
+    tiles: &mut Steps<T>,
+) -> bool {
+    let gate = Held {
+        passed: AtomicU64::new(0),
+        gave_up: AtomicU64::new(0),
+    };
+    let batch = [
+        resize(64, 128),
+        create(alloc, 1, 0, false),
+        fill(0, 0, 5, 6, 0xff12_3456),
+        fill(0, 64, 7, 8, 0xffff_ffff),
+    ];
+    let workers = Workers { count, gate: &gate };
+    let mut canvas = Canvas::new(alloc);
+    canvas
+        .draw_batch(rt, &batch, &workers, draws, tiles)
+        .expect(rt, "memory");
+    assert_eq!(rt; canvas.pixel(1, 4, 5), Some(of_argb(0xff12_3456)));
+    assert_eq!(rt; canvas.pixel(1, 5, 5), Some(Pixel::CLEAR));
+    assert_eq!(rt; canvas.pixel(1, 6, 71), Some(Pixel::WHITE));
+    gate.gave_up.load(Ordering::SeqCst) == 1
+}
+
+/// Two tiles of a batch are painted at the same time where there are two workers or more.
+fn check_batches<R: Threads + Sync + Abort, D: Ledger, T: Ledger>(
+    rt: &R,
+    alloc: Global,
+    draw_blank: Blank,
+    tile_blank: Blank,
+)
+    requires draws { (draw_blank.name ≡ D.name) × (draw_blank.parts ≡ D.parts)
+        × (0 < draw_blank.parts) }
+    requires tiles { (tile_blank.name ≡ T.name) × (tile_blank.parts ≡ T.parts)
+        × (0 < tile_blank.parts) }
+{
+    let mut draws = Steps::<D>::new(draw_blank);
+    let mut tiles = Steps::<T>::new(tile_blank);
+    assert!(rt; paints_in_turn(rt, alloc, 0, &mut draws, &mut tiles));
+    assert!(rt; paints_in_turn(rt, alloc, 1, &mut draws, &mut tiles));
+    assert!(rt; !paints_in_turn(rt, alloc, 2, &mut draws, &mut tiles));
+    assert!(rt; !paints_in_turn(rt, alloc, 7, &mut draws, &mut tiles));
+}
+
+#[test]
+fn batches_by_workers(rt: HostRuntime) {
+    check_batches::<HostRuntime, Brand, Brand>(&rt, rt.alloc(), Blank::new(1), Blank::new(1));
 }
 
 #[test]

@@ -10,7 +10,7 @@ use std::sync::atomic::{AtomicU64, Ordering};
 use std::thread;
 
 /// How many turns a pause waits.
-const TURNS: u64 = 5_000_000;
+const TURNS: u64 = 1_000_000;
 
 /// How many bytes a link may be sent.
 const ROOM: usize = 20_000;

@@ -1,4 +1,4 @@
-use Rattle.std.proofs.Common.{◌∷◌, [], ◌++◌, ◌<◌, ◌∙◌, List, length, take, ap, sym, subst, arith}
+use Rattle.std.proofs.Common.{◌∷◌, [], ◌++◌, ◌<◌, ◌∙◌, length, take, ap, sym, subst, arith}
 use Rattle.std.specs.Prelude.{All}
 use Rattle.std.proofs.lemmas.List.{take_more}
 use Rattle.std.proofs.lemmas.List.Elements.{All-push}

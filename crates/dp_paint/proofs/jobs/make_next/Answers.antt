@@ -1,12 +1,10 @@
-use Rattle.std.proofs.Common.{◌*◌, ◌+◌, ◌%◌, ◌/◌, arith}
-use Rattle.std.proofs.lemmas.Result.{on_ok_weaker}
 use Rattle.dp_paint.specs.Lists.{listed_at, waiting_tile}
-use Rattle.dp_paint.proofs.Made.{cell_long, made_cell, made_job, made_nothing}
+use Rattle.dp_paint.proofs.Made.{cell_long, made_nothing}
 use Rattle.dp_paint.proofs.Ops.{tile_none}
 use Rattle.dp_paint.proofs.jobs.make_next.Goals as goal
 
-pub returns-then-has_work-clause-made : goal.returns-then-has_work-clause-made
-returns-then-has_work-clause-made g c = λ first order made.
+pub returns-clause-made : goal.returns-clause-made
+returns-clause-made g c = λ first order made.
     let p = c.args.painter in
     let old = c.args.grid.now in
     made_nothing (waiting_tile p.on.width p.on.height p.on.commands.now p.lists.now) first
@@ -15,37 +13,3 @@ returns-then-has_work-clause-made g c = λ first order made.
     tile_none _ (listed_at p.lists.now col row) _
     (c.has_work.ensures.none c.if-has_work.false col row in_cols in_rows same)
     (cell_long old c.known.ensures col row in_cols in_rows))
-
-pub returns-in_ok-push-in-Unknown-clause-made : goal.returns-in_ok-push-in-Unknown-clause-made
-returns-in_ok-push-in-Unknown-clause-made g c = λ first order made.
-    let p = c.args.painter in
-    let old = c.args.grid.now in
-    let job = c.in_ok-job in
-    made_job (waiting_tile p.on.width p.on.height p.on.commands.now p.lists.now) first
-    c.args.number old _ _ c.known.ensures order made job.job _ c.in_ok-push.ensures.items
-    (omega (arith, job.ensures.col, c.has_work.ensures.col c.if-has_work.true))
-    (omega (arith, job.ensures.row, c.has_work.ensures.row c.if-has_work.true))
-    (omega (arith, job.ensures.col, job.ensures.row))
-    (rw (job.ensures.col, job.ensures.row) job.ensures.wanted) job.ensures.pixels
-
-pub returns-in_default : goal.returns-in_default
-returns-in_default g c =
-    let p = c.args.painter in
-    let old = c.args.grid.now in
-    record {
-      made = λ first order made.
-          on_ok_weaker c.paint.result
-          (λ painting.
-          made_cell (waiting_tile p.on.width p.on.height p.on.commands.now p.lists.now) first
-          c.args.number old _ _ c.known.ensures order made (c.args.number % 64)
-          (c.args.number / 64) _ c.known-2.ensures
-          (c.has_work.ensures.col c.if-has_work.true) (c.has_work.ensures.row c.if-has_work.true)
-          (omega arith) painting)
-          c.paint.ensures.painted;
-      tiles_rise = c.paint.ensures.tiles_rise;
-      few_tiles = omega (
-        arith,
-        c.paint.ensures.one_tile,
-        c.has_work.ensures.some c.if-has_work.true,
-      );
-    }

@@ -20,3 +20,13 @@ returns-clause-same g c =
 pub returns-clause-few_tiles : goal.returns-clause-few_tiles
 returns-clause-few_tiles g c =
     omega (arith, c.in_ok-settle_all.ensures.few_tiles, waiting_few c.self.inside.lists 4096)
+
+pub returns-in_err-settle_all-clause-same : goal.returns-in_err-settle_all-clause-same
+returns-in_err-settle_all-clause-same g c =
+    let inside = c.self.inside in
+    same_layer c.args.self.now inside.width inside.height [] inside.lists c.settle_all.new.lists
+    inside.grid c.settle_all.new.grid c.self.view_is c.settle_all.ensures.same
+
+pub returns-in_err-settle_all-clause-few_tiles : goal.returns-in_err-settle_all-clause-few_tiles
+returns-in_err-settle_all-clause-few_tiles g c =
+    omega (arith, c.settle_all.ensures.few_tiles, waiting_few c.self.inside.lists 4096)
