@@ -8,22 +8,22 @@ use Rattle.dp_messages.specs.declared.message.Msg.{Msg}
 use Rattle.dp_messages.specs.declared.message.Msg.TheVariants as msg
 use Rattle.dp_messages.specs.declared.message.Entry.{Entry}
 use Rattle.dp_acl.specs.LookBack.{joined, is_join_of}
-use Rattle.dp_acl.specs.Opening.{goes_on, GoOn, kept_from}
+use Rattle.dp_acl.specs.Opening.{goes_over, GoOver, kept_entries}
 
-passing-go : (entries : List Entry) → GoOn (filter (λ entry. goes_on entry.msg) entries)
+passing-go : (entries : List Entry) → GoOver (filter (λ entry. goes_over entry.msg) entries)
 passing-go [] = tt
 passing-go (e ∷ es) =
-    let rest = filter (λ entry. goes_on entry.msg) es in
-    cond_both (goes_on e.msg) (e ∷ rest) rest GoOn (λ goes. (goes, passing-go es))
+    let rest = filter (λ entry. goes_over entry.msg) es in
+    cond_both (goes_over e.msg) (e ∷ rest) rest GoOver (λ goes. (goes, passing-go es))
     (λ no. passing-go es)
 
 -- what a reset keeps goes on
-pub kept-goes : (place : Option ℕ) (history : List Entry) → GoOn (kept_from place history)
+pub kept-goes : (place : Option ℕ) (history : List Entry) → GoOver (kept_entries place history)
 kept-goes None history = tt
 kept-goes (Some place) history = passing-go (drop place history)
 
 -- a message that goes on is no Join
-going-joined : (m : Msg) → goes_on m ≡ true → joined m ≡ None
+going-joined : (m : Msg) → goes_over m ≡ true → joined m ≡ None
 going-joined (msg.Draw command) goes = refl
 going-joined msg.Point goes = refl
 going-joined (msg.Undo target redo) goes = refl
@@ -32,7 +32,7 @@ going-joined (msg.Meta (Chat text)) goes = refl
 going-joined m goes = absurd (false≢true goes)
 
 -- so no user joins by entries that go on
-pub going-joins : (entries : List Entry) (user : ℕ) → GoOn entries
+pub going-joins : (entries : List Entry) (user : ℕ) → GoOver entries
     → filter (is_join_of user) entries ≡ []
 going-joins [] user go = refl
 going-joins (e ∷ es) user go =

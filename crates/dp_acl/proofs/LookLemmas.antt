@@ -19,7 +19,7 @@ use Rattle.dp_acl.specs.LookBack.{numbers_below, lists, joined, is_join_of, has_
 use Rattle.dp_acl.specs.Rights.{is_registered, rule_of, first_tiers}
 use Rattle.dp_acl.specs.Carried.{acl_with, carried_rule, carried_rules}
 use Rattle.dp_acl.specs.Table.{rule_in_order}
-use Rattle.dp_acl.specs.Opening.{server_entry, command_entry, last_join, goes_on, GoOn}
+use Rattle.dp_acl.specs.Opening.{server_entry, command_entry, last_join, goes_over, GoOver}
 use Rattle.dp_acl.proofs.ListLemmas.{lists-numbers}
 use Rattle.dp_acl.proofs.PushLemmas.{last_item, last_item-more, joined-push, registered-push}
 use Rattle.dp_acl.proofs.LawLemmas.{Look, look, look_after, look-push}
@@ -62,7 +62,7 @@ module _ (user layer : ℕ) where
   all-commands (c ∷ cs) l = all-commands cs l
 
   -- an entry that goes on changes nothing
-  one-kept : (id : ℕ) (m : Msg) (l : Look) → goes_on m ≡ true
+  one-kept : (id : ℕ) (m : Msg) (l : Look) → goes_over m ≡ true
       → look_after user layer (record { user = id; msg = m }) l ≡ l
   one-kept id (msg.Draw command) l goes = refl
   one-kept id msg.Point l goes = refl
@@ -72,7 +72,7 @@ module _ (user layer : ℕ) where
   one-kept id m l goes = absurd (false≢true goes)
 
   -- nor do several
-  pub all-kept : (kept : List Entry) (l : Look) → GoOn kept → look_all user layer kept l ≡ l
+  pub all-kept : (kept : List Entry) (l : Look) → GoOver kept → look_all user layer kept l ≡ l
   all-kept [] l go = refl
   all-kept (e ∷ es) l go =
       ap (look_all user layer es) (one-kept e.user e.msg l go.0) ∙ all-kept es l go.1

@@ -24,7 +24,7 @@ use Rattle.dp_acl.specs.Rights.{is_lock_listed, tiers_of, depth_of, rule_of, let
 use Rattle.dp_acl.specs.Carried.{carried, carried_rules, lock_of_all}
 use Rattle.dp_acl.specs.Step.{IsKeptAfter}
 use Rattle.dp_acl.specs.Table.{Kept, StandsFor, rule_in_order}
-use Rattle.dp_acl.specs.Opening.{server_entry, command_entry, last_join, goes_on, GoOn, opening}
+use Rattle.dp_acl.specs.Opening.{server_entry, command_entry, last_join, goes_over, GoOver, opening}
 use Rattle.dp_acl.specs.Laws.{CommandsChangeNoRight, KeptChangeNoRight, OpeningsChangeNoRight}
 use Rattle.dp_acl.proofs.ListLemmas.{and_true}
 use Rattle.dp_acl.proofs.StepLemmas.{stands-push, kept-other}
@@ -53,11 +53,11 @@ kept-chat : (table : Kept) (user : ℕ) (text : List ℕ)
     → IsKeptAfter table (record { user = user; msg = msg.Meta (meta.Chat text) }) table
 kept-chat table user text = search rules
 
-kept-going : (table : Kept) (user : ℕ) (m : Msg) → goes_on m ≡ true
+kept-going : (table : Kept) (user : ℕ) (m : Msg) → goes_over m ≡ true
     → IsKeptAfter table (record { user = user; msg = m }) table
 kept-going table user (msg.Meta (meta.Chat text)) goes = kept-chat table user text
 kept-going table user (msg.Meta m) goes = cc
-kept-going table user m goes = kept-other table user m (λ other same. cc (ap goes_on same))
+kept-going table user m goes = kept-other table user m (λ other same. cc (ap goes_over same))
 
 pub kept-change-nothing : KeptChangeNoRight
 kept-change-nothing table history [] go stands =
@@ -197,7 +197,7 @@ module _ (history : List Entry) (present : List ℕ) (user : ℕ) (rise : RiseFr
 
   -- what is found of the user after the opening is what was found before it, but that the ids of
   -- the layer's rule stand in order
-  look-opening : (epoch : ℕ) (commands : List Draw) (kept : List Entry) (layer : ℕ) → GoOn kept
+  look-opening : (epoch : ℕ) (commands : List Draw) (kept : List Entry) (layer : ℕ) → GoOver kept
       → layer < 65536
       → look (opening epoch history present commands kept) user layer
       ≡ record (look history user layer) {

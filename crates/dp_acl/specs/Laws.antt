@@ -12,7 +12,7 @@ use Rattle.dp_acl.specs.Rights.{is_operator}
 use Rattle.dp_acl.specs.Permitted.{permitted}
 use Rattle.dp_acl.specs.Carried.{in_order}
 use Rattle.dp_acl.specs.Table.{Kept, StandsFor}
-use Rattle.dp_acl.specs.Opening.{command_entry, GoOn, opening}
+use Rattle.dp_acl.specs.Opening.{command_entry, GoOver, opening}
 
 -- the entry that stands in place of a forbidden message of this kind
 abbrev pub filtered : ℕ → ℕ → Entry
@@ -46,7 +46,7 @@ CommandsChangeNoRight =
 abbrev pub KeptChangeNoRight : Type 0
 KeptChangeNoRight =
     (table : Kept) (history kept : List Entry)
-    → GoOn kept → StandsFor table history → StandsFor table (history ++ kept)
+    → GoOver kept → StandsFor table history → StandsFor table (history ++ kept)
 
 -- An opening changes no right of a user who is present, if the entries that it keeps go on: what
 -- the user may say is the same after it as after the history before, of messages that have a
@@ -55,5 +55,6 @@ abbrev pub OpeningsChangeNoRight : Type 0
 OpeningsChangeNoRight =
     (table : Kept) (epoch : ℕ) (history : List Entry) (present : List ℕ) (commands : List Draw)
     (kept : List Entry) (user : ℕ) (m : Msg)
-    → GoOn kept → StandsFor table history → RiseFrom 1 present → lists present user ≡ true → HasSpelling m
+    → GoOver kept → StandsFor table history → RiseFrom 1 present → lists present user ≡ true
+    → HasSpelling m
     → permitted (opening epoch history present commands kept) user m ≡ permitted history user m

@@ -26,22 +26,22 @@ last_join history user =
 
 -- An entry of this message goes on into the next epoch if the reset keeps entries: a command, a
 -- point, an undo, a chat, or what has no effect.
-abbrev pub goes_on : Msg → Bool
-goes_on (msg.Draw command) = true
-goes_on msg.Point = true
-goes_on (msg.Undo target redo) = true
-goes_on (msg.Opaque kind body) = true
-goes_on (msg.Meta (Chat text)) = true
-goes_on m = false
+abbrev pub goes_over : Msg → Bool
+goes_over (msg.Draw command) = true
+goes_over msg.Point = true
+goes_over (msg.Undo target redo) = true
+goes_over (msg.Opaque kind body) = true
+goes_over (msg.Meta (Chat text)) = true
+goes_over m = false
 
 -- each of the entries goes on
-abbrev pub GoOn : List Entry → Type 0
-GoOn entries = AllByRecursion (λ entry. goes_on entry.msg ≡ true) entries
+abbrev pub GoOver : List Entry → Type 0
+GoOver entries = AllByRecursion (λ entry. goes_over entry.msg ≡ true) entries
 
 -- the entries that a reset keeps of a history from this place on; none, if it names no place
-abbrev pub kept_from : Option ℕ → List Entry → List Entry
-kept_from None history = []
-kept_from (Some place) history = filter (λ entry. goes_on entry.msg) (drop place history)
+abbrev pub kept_entries : Option ℕ → List Entry → List Entry
+kept_entries None history = []
+kept_entries (Some place) history = filter (λ entry. goes_over entry.msg) (drop place history)
 
 -- What stands after the mark of a new epoch: the last Joins of the present users, what is carried
 -- of the rights, the commands of the reset, and the entries that it keeps.

@@ -4,7 +4,7 @@ ghost use Rattle.std.specs.Prelude.{◌≡◌, ℕ, Option, List, []};
 ghost use Rattle.std.specs.List.{filter};
 ghost use Rattle.dp_messages.specs.declared.message.Entry.{Entry};
 ghost use Rattle.dp_acl.specs.LookBack.{is_join_of};
-ghost use Rattle.dp_acl.specs.Opening.{GoOn, kept_from};
+ghost use Rattle.dp_acl.specs.Opening.{GoOver, kept_entries};
 ghost use Rattle.dp_acl.specs.Laws.{ForbiddenChangesNoRight, OperatorsStay, SpelledIdsAreInOrder};
 ghost use Rattle.dp_acl.specs.Laws.{CommandsChangeNoRight, KeptChangeNoRight};
 ghost use Rattle.dp_acl.specs.Laws.{OpeningsChangeNoRight};
@@ -33,13 +33,13 @@ pub fn commands_change_no_right()
 
 /// What a reset keeps of a history goes on, and no user joins by entries that do.
 pub fn kept_go_on()
-    ensures go_on { (place : Option ℕ) (history : List Entry) → GoOn (kept_from place history) }
-    ensures joins { (entries : List Entry) (user : ℕ) → GoOn entries
+    ensures go_on { (place : Option ℕ) (history : List Entry) → GoOver (kept_entries place history) }
+    ensures joins { (entries : List Entry) (user : ℕ) → GoOver entries
         → filter (is_join_of user) entries ≡ [] }
 {}
 
-/// Entries that go on into the next epoch change no right: a table stands for a history with them as
-/// without.
+/// Entries that go on into the next epoch change no right: a table stands for a history with them
+/// as without.
 pub fn kept_change_no_right()
     ensures { KeptChangeNoRight }
 {}

@@ -10,7 +10,7 @@ use Rattle.dp_schedule.specs.declared.action.Action.TheVariants.{Act}
 use Rattle.dp_schedule.specs.declared.action.Instruction.TheVariants.{Take, Up}
 use Rattle.dp_drill.specs.Flow.{Flow, flow_after}
 use Rattle.dp_drill.specs.declared.rounds.Brush.{Brush}
-use Rattle.dp_drill.specs.Schedule.{dab, drill_number, next, round, round_of, rounds, said_by}
+use Rattle.dp_drill.specs.Schedule.{dab, drill_number, next, round, round_of, rounds, saying}
 use Rattle.dp_drill.specs.Schedule.{square}
 
 -- the round that comes next, and those that are left after it
@@ -36,15 +36,15 @@ passed b x y is = ap (λ t. if t then x else y) is
 module _ (client kind : ℕ) (b : Brush) where
   -- what a round does of a kind after the first one
   after-0 : kind ≢ 0 → round_of client kind b
-      ≡ (if nat_le kind 3 then said_by client (square b)
-      else if kind == 4 then said_by client (dab b)
-      else if kind == 5 then said_by client (msg.Undo 0 false)
+      ≡ (if nat_le kind 3 then saying client (square b)
+      else if kind == 4 then saying client (dab b)
+      else if kind == 5 then saying client (msg.Undo 0 false)
       else if nat_le kind 11 then Act client Up ∷ [] else replicate 4 (Act client Take))
   after-0 some = passed (kind == 0) _ _ (ne_eqb kind 0 some)
 
   after-3 : 3 < kind → round_of client kind b
-      ≡ (if kind == 4 then said_by client (dab b)
-      else if kind == 5 then said_by client (msg.Undo 0 false)
+      ≡ (if kind == 4 then saying client (dab b)
+      else if kind == 5 then saying client (msg.Undo 0 false)
       else if nat_le kind 11 then Act client Up ∷ [] else replicate 4 (Act client Take))
   after-3 more = after-0 (λ is. absurd (omega (arith, is, more)))
       ∙ passed (nat_le kind 3) _ _ (lt-leb kind 3 more)
@@ -55,17 +55,17 @@ module _ (client kind : ℕ) (b : Brush) where
       ∙ passed (kind == 4) _ _ (ne_eqb kind 4 (λ is. absurd (omega (arith, is, more))))
       ∙ passed (kind == 5) _ _ (ne_eqb kind 5 (λ is. absurd (omega (arith, is, more))))
 
-  pub is-point : kind ≡ 0 → round_of client kind b ≡ said_by client msg.Point
+  pub is-point : kind ≡ 0 → round_of client kind b ≡ saying client msg.Point
   is-point is = chosen (kind == 0) _ _ (eq-eqb kind 0 is)
 
-  pub is-square : 1 ≤ kind → kind ≤ 3 → round_of client kind b ≡ said_by client (square b)
+  pub is-square : 1 ≤ kind → kind ≤ 3 → round_of client kind b ≡ saying client (square b)
   is-square low high = after-0 (λ is. absurd (omega (arith, is, low)))
       ∙ chosen (nat_le kind 3) _ _ (le-leb kind 3 high)
 
-  pub is-dab : kind ≡ 4 → round_of client kind b ≡ said_by client (dab b)
+  pub is-dab : kind ≡ 4 → round_of client kind b ≡ saying client (dab b)
   is-dab is = after-3 (omega (arith, is)) ∙ chosen (kind == 4) _ _ (eq-eqb kind 4 is)
 
-  pub is-undo : kind ≡ 5 → round_of client kind b ≡ said_by client (msg.Undo 0 false)
+  pub is-undo : kind ≡ 5 → round_of client kind b ≡ saying client (msg.Undo 0 false)
   is-undo is = after-3 (omega (arith, is))
       ∙ passed (kind == 4) _ _ (ne_eqb kind 4 (λ other. absurd (omega (arith, other, is))))
       ∙ chosen (kind == 5) _ _ (eq-eqb kind 5 is)

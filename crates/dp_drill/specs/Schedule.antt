@@ -43,17 +43,17 @@ dab b = msg.Draw (DabsRound 257 (pos b.x) (pos b.y) (b.rgb / 65536) (b.rgb / 256
     (b.rgb % 256) 1 (record { dx = pos 0; dy = pos 0; size = 9; opacity = 128 } ∷ []))
 
 -- the client of a number says a message
-abbrev pub said_by : ℕ → Msg → List Action
-said_by client m = Act client (Say m) ∷ []
+abbrev pub saying : ℕ → Msg → List Action
+saying client m = Act client (Say m) ∷ []
 
 -- What a client does in a round of this kind: it says one of four messages, its uplink sends, or it
 -- takes four times.
 abbrev pub round_of : ℕ → ℕ → Brush → List Action
 round_of client kind brush =
-    if kind == 0 then said_by client msg.Point
-    else if nat_le kind 3 then said_by client (square brush)
-    else if kind == 4 then said_by client (dab brush)
-    else if kind == 5 then said_by client (msg.Undo 0 false)
+    if kind == 0 then saying client msg.Point
+    else if nat_le kind 3 then saying client (square brush)
+    else if kind == 4 then saying client (dab brush)
+    else if kind == 5 then saying client (msg.Undo 0 false)
     else if nat_le kind 11 then Act client Up ∷ []
     else replicate 4 (Act client Take)
 

@@ -463,9 +463,9 @@ histories-go_on s e (Reopened conn c) k =
 histories-go_on s e effect k = last-grows s.ended s.live (entries_of e effect) k
 
 -- the history of each epoch goes on
-pub history-goes_on : (s : State) (e : Event) (epoch : ℕ)
+pub history-goes_over : (s : State) (e : Event) (epoch : ℕ)
     → Continues (history_of s epoch) (history_of (after_event s e) epoch)
-history-goes_on s e epoch =
+history-goes_over s e epoch =
     let h = has-effect s e in
     subst (λ a. Continues (history_of s epoch) (history_of (noted s a) epoch)) (sym h.made)
     (histories-go_on s e h.effect epoch)

@@ -45,7 +45,7 @@ use Rattle.dp_epochs.proofs.Interleaving.{state-came, state-shut}
 use Rattle.dp_epochs.proofs.OpeningLemmas.{opening-short, present-few, opening-marked}
 use Rattle.dp_epochs.proofs.OpeningLemmas.{unmarked-append, going, going-append, going-few}
 use Rattle.dp_epochs.proofs.OpeningLemmas.{opening-going, kept-few, kept-go, go-unmarked}
-use Rattle.dp_epochs.proofs.EffectLemmas.{has-effect, entries-few, history-goes_on}
+use Rattle.dp_epochs.proofs.EffectLemmas.{has-effect, entries-few, history-goes_over}
 
 -- ---- answers
 
@@ -113,7 +113,7 @@ pub history-grows : (journal : List Event) (shut : List ShutAt) (e : Event) (epo
 history-grows journal shut e epoch before =
     subst (λ s. Continues (history_of (state_after journal shut) epoch) (history_of s epoch))
     (sym (state-came journal shut e before))
-    (history-goes_on (state_after journal shut) e epoch)
+    (history-goes_over (state_after journal shut) e epoch)
 
 -- ---- what holds of every state
 

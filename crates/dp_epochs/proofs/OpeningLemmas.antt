@@ -24,7 +24,7 @@ use Rattle.dp_acl.specs.LookBack.{numbers_below, lists, joined, is_join_of, Laye
 use Rattle.dp_acl.specs.Rights.{rule_of, depth_of}
 use Rattle.dp_acl.specs.Carried.{acl_with, carried_depth, carried_rule, carried_rules, carried}
 use Rattle.dp_acl.specs.Opening.{server_entry, command_entry, last_join, carried_entries, opening}
-use Rattle.dp_acl.specs.Opening.{goes_on, GoOn, kept_from}
+use Rattle.dp_acl.specs.Opening.{goes_over, GoOver, kept_entries}
 use Rattle.dp_acl.proofs.KeptLemmas.{kept-goes}
 use Rattle.dp_acl.specs.Opening.{part_limit, opening_limit}
 use Rattle.dp_epochs.specs.State.{State, Stream, is_present, user_ids, present_users, kept_by}
@@ -125,16 +125,16 @@ present-rise s = rise-range (is_present s) 254 1 (omega arith)
 
 -- how many of the entries go on
 abbrev pub going : List Entry → ℕ
-going entries = length (filter (λ entry. goes_on entry.msg) entries)
+going entries = length (filter (λ entry. goes_over entry.msg) entries)
 
 pub going-append : (xs ys : List Entry) → going (xs ++ ys) ≡ going xs + going ys
 going-append xs ys =
-    ap length (filter-append (λ (entry : Entry). goes_on entry.msg) xs ys)
-    ∙ length-append (filter (λ entry. goes_on entry.msg) xs)
-    (filter (λ entry. goes_on entry.msg) ys)
+    ap length (filter-append (λ (entry : Entry). goes_over entry.msg) xs ys)
+    ∙ length-append (filter (λ entry. goes_over entry.msg) xs)
+    (filter (λ entry. goes_over entry.msg) ys)
 
 pub going-few : (entries : List Entry) → going entries ≤ length entries
-going-few entries = length-passing (λ (entry : Entry). goes_on entry.msg) entries
+going-few entries = length-passing (λ (entry : Entry). goes_over entry.msg) entries
 
 pub going-commands : (commands : List Draw) → going (map command_entry commands) ≤ length commands
 going-commands commands =
@@ -144,8 +144,8 @@ going-dropped : (n : ℕ) (entries : List Entry) → going (drop n entries) ≤ 
 going-dropped zero entries = omega arith
 going-dropped (suc n) [] = omega arith
 going-dropped (suc n) (e ∷ es) =
-    let rest = filter (λ entry. goes_on entry.msg) es in
-    cond_both (goes_on e.msg) (e ∷ rest) rest (λ (xs : List Entry). going (drop n es) ≤ length xs)
+    let rest = filter (λ entry. goes_over entry.msg) es in
+    cond_both (goes_over e.msg) (e ∷ rest) rest (λ (xs : List Entry). going (drop n es) ≤ length xs)
     (λ yes. omega (arith, going-dropped n es)) (λ no. going-dropped n es)
 
 -- a reset keeps at most the entries that go on
@@ -154,27 +154,27 @@ pub kept-few : (stream : Option Stream) (history : List Entry)
 kept-few None history = omega arith
 kept-few (Some stream) history = from stream.place
   where
-    from : (place : Option ℕ) → length (kept_from place history) ≤ going history
+    from : (place : Option ℕ) → length (kept_entries place history) ≤ going history
     from None = omega arith
     from (Some place) = going-dropped place history
 
 -- what a reset keeps goes on
-pub kept-go : (stream : Option Stream) (history : List Entry) → GoOn (kept_by stream history)
+pub kept-go : (stream : Option Stream) (history : List Entry) → GoOver (kept_by stream history)
 kept-go None history = tt
 kept-go (Some stream) history = kept-goes stream.place history
 
-going-unmarked : (m : Msg) → goes_on m ≡ true → marked m ≡ None
+going-unmarked : (m : Msg) → goes_over m ≡ true → marked m ≡ None
 going-unmarked (msg.Meta (meta.ResetMark epoch carried)) goes = cc
 going-unmarked m goes = refl
 
 -- no mark is among entries that go on
-pub go-unmarked : (entries : List Entry) → GoOn entries → HasNoMark entries
+pub go-unmarked : (entries : List Entry) → GoOver entries → HasNoMark entries
 go-unmarked [] go = tt
 go-unmarked (e ∷ es) go = (going-unmarked e.msg go.0, go-unmarked es go.1)
 
 -- the entry is no mark, and doesn't go on
 abbrev IsBare : Entry → Type 0
-IsBare entry = (marked entry.msg ≡ None) × (goes_on entry.msg ≡ false)
+IsBare entry = (marked entry.msg ≡ None) × (goes_over entry.msg ≡ false)
 
 abbrev AreBare : List Entry → Type 0
 AreBare entries = AllByRecursion IsBare entries
@@ -190,8 +190,8 @@ bare-unmarked (e ∷ es) bare = (bare.0.0, bare-unmarked es bare.1)
 bare-going : (entries : List Entry) → AreBare entries → going entries ≡ 0
 bare-going [] bare = refl
 bare-going (e ∷ es) bare =
-    let rest = filter (λ entry. goes_on entry.msg) es in
-    ap length (cond-false (goes_on e.msg) (e ∷ rest) rest bare.0.1) ∙ bare-going es bare.1
+    let rest = filter (λ entry. goes_over entry.msg) es in
+    ap length (cond-false (goes_over e.msg) (e ∷ rest) rest bare.0.1) ∙ bare-going es bare.1
 
 pub unmarked-append : (xs ys : List Entry) → HasNoMark xs → HasNoMark ys → HasNoMark (xs ++ ys)
 unmarked-append [] ys hx hy = hy
@@ -223,7 +223,7 @@ pub last-joined : (history : List Entry) (user : ℕ) (e : Entry) → last_join 
 last-joined history user e is =
     found-passes (is_join_of user) history e (length (filter (is_join_of user) history) - 1) is
 
-joined-bare : (m : Msg) → is_some (joined m) ≡ true → (marked m ≡ None) × (goes_on m ≡ false)
+joined-bare : (m : Msg) → is_some (joined m) ≡ true → (marked m ≡ None) × (goes_over m ≡ false)
 joined-bare (msg.Meta (meta.Join registered name)) some = (refl, refl)
 joined-bare m some = absurd (false≢true some)
 

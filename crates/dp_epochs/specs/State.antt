@@ -27,7 +27,7 @@ use Rattle.dp_epochs.specs.declared.connection.Connection.{Connection}
 use Rattle.dp_epochs.specs.Connections.{is_open}
 use Rattle.dp_epochs.specs.declared.decision.Decision.{Decision}
 use Rattle.dp_epochs.specs.declared.decision.Decision.TheVariants as decision
-use Rattle.dp_acl.specs.Opening.{server_entry, kept_from, part_limit, opening}
+use Rattle.dp_acl.specs.Opening.{server_entry, kept_entries, part_limit, opening}
 
 -- A reset that is being sent: the connection that sends it, the commands so far, and the place of
 -- the live history from which on entries are kept, if it names one.
@@ -263,7 +263,7 @@ sent_commands (Some stream) = stream.commands
 -- what the reset that is being sent, if there is one, keeps of a history
 abbrev pub kept_by : Option Stream → List Entry → List Entry
 kept_by None history = []
-kept_by (Some stream) history = kept_from stream.place history
+kept_by (Some stream) history = kept_entries stream.place history
 
 -- the reset with the command of a message that is a part
 abbrev pub with_part : Msg → Stream → Stream

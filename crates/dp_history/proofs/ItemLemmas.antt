@@ -14,7 +14,7 @@ use Rattle.dp_msg_meta.specs.Fields.{IsText}
 use Rattle.dp_msg_meta.specs.declared.message.Meta.TheVariants.{Join}
 use Rattle.dp_messages.specs.declared.message.Entry.{Entry}
 use Rattle.dp_acl.specs.Laws.{CommandsChangeNoRight, KeptChangeNoRight}
-use Rattle.dp_acl.specs.Opening.{opening, command_entry, last_join, server_entry, goes_on}
+use Rattle.dp_acl.specs.Opening.{opening, command_entry, last_join, server_entry, goes_over}
 use Rattle.dp_acl.specs.Table.{StandsFor}
 use Rattle.dp_epochs.specs.declared.event.Event.{Event}
 use Rattle.dp_epochs.specs.declared.event.Event.TheVariants as event
@@ -146,34 +146,34 @@ holds-command law journal old new history parts i within said rights items h =
 
 -- the entry of a part goes on
 command-goes : (o : Option Draw)
-    → true ≡ goes_on (option_map_or command_entry o (entry_of 0 msg.Point)).msg
+    → true ≡ goes_over (option_map_or command_entry o (entry_of 0 msg.Point)).msg
 command-goes None = refl
 command-goes (Some command) = refl
 
 pub part-goes : (journal : List Event) (i : HistoryItem) (k : ℕ) → i ≡ item.Command k
-    → true ≡ goes_on (entry_in journal i).msg
+    → true ≡ goes_over (entry_in journal i).msg
 part-goes journal i k is =
-    subst (λ x. true ≡ goes_on (entry_in journal x).msg) (sym is)
+    subst (λ x. true ≡ goes_over (entry_in journal x).msg) (sym is)
     (command-goes (part_of (slice_get journal k)))
 
 -- and a Join doesn't
-named-stays : (e d : Entry) → goes_on e.msg ≡ false → (b : Bool)
+named-stays : (e d : Entry) → goes_over e.msg ≡ false → (b : Bool)
     → is_some (if b then Some e else None) ≡ true
-    → false ≡ goes_on (unwrap_or (if b then Some e else None) d).msg
+    → false ≡ goes_over (unwrap_or (if b then Some e else None) d).msg
 named-stays e d stays true some = sym stays
 named-stays e d stays false some = cc
 
 join-stays : (user : ℕ) (o : Option Event) → is_some (join_of user o) ≡ true
-    → false ≡ goes_on (unwrap_or (join_of user o) (entry_of user msg.Point)).msg
+    → false ≡ goes_over (unwrap_or (join_of user o) (entry_of user msg.Point)).msg
 join-stays user (Some (event.Open name registered)) some =
     named-stays (entry_of user (msg.Meta (Join registered name))) (entry_of user msg.Point) refl
     (is_name name) some
 join-stays user o some = cc
 
 pub joined-stays : (journal : List Event) (i : HistoryItem) (k user : ℕ) → i ≡ item.Joined k user
-    → IsIn journal i → false ≡ goes_on (entry_in journal i).msg
+    → IsIn journal i → false ≡ goes_over (entry_in journal i).msg
 joined-stays journal i k user is said =
-    subst (λ x. false ≡ goes_on (entry_in journal x).msg) (sym is)
+    subst (λ x. false ≡ goes_over (entry_in journal x).msg) (sym is)
     (join-stays user (slice_get journal k) (subst (IsIn journal) is said))
 
 -- with more memory an opening holds the same
@@ -190,7 +190,7 @@ holds-same journal old new history items h rights =
 -- entries that go on, among one item more
 module _ (journal : List Event) where
   abbrev passing : List Entry → List Entry
-  passing = filter (λ e. goes_on e.msg)
+  passing = filter (λ e. goes_over e.msg)
 
   next-passing : (items : List HistoryItem) (i : ℕ) (d : HistoryItem) → i < length items
       → passing (map (entry_in journal) (take (i + 1) items))
@@ -201,7 +201,7 @@ module _ (journal : List Event) where
       let one = entry_in journal (get_or items i d) ∷ [] in
       ap passing (ap (map (entry_in journal)) (take-next items i d within)
       ∙ map-append (entry_in journal) (take i items) (get_or items i d ∷ []))
-      ∙ filter-append (λ (e : Entry). goes_on e.msg) before one
+      ∙ filter-append (λ (e : Entry). goes_over e.msg) before one
 
   pub kept-more : (items : List HistoryItem) (i : ℕ) (d : HistoryItem) (history : List Entry)
       → i < length items
@@ -215,7 +215,7 @@ module _ (journal : List Event) where
 
   -- how many go on
   pub count-more : (items : List HistoryItem) (i : ℕ) (d : HistoryItem) (goes : Bool)
-      → i < length items → goes_on (entry_in journal (get_or items i d)).msg ≡ goes
+      → i < length items → goes_over (entry_in journal (get_or items i d)).msg ≡ goes
       → length (passing (map (entry_in journal) (take (i + 1) items)))
       ≡ length (passing (map (entry_in journal) (take i items))) + (if goes then 1 else 0)
   count-more items i d goes within is =
@@ -234,7 +234,7 @@ module _ (journal : List Event) where
 
   -- an opening holds a copy of an entry that goes on
   pub holds-kept : KeptChangeNoRight → (old new : Opening) (history : List Entry)
-      (item copy : HistoryItem) → goes_on (entry_in journal item).msg ≡ true
+      (item copy : HistoryItem) → goes_over (entry_in journal item).msg ≡ true
       → entry_in journal copy ≡ entry_in journal item → IsIn journal copy
       → new.rights ≡ old.rights → new.live.items ≡ old.live.items ++ copy ∷ []
       → Holds journal old history
@@ -242,18 +242,18 @@ module _ (journal : List Event) where
   holds-kept law old new history item copy goes same said rights items h =
       let e = entry_in journal item in
       subst (λ es. Holds journal new (history ++ es))
-      (sym (cond-true (goes_on e.msg) (e ∷ []) [] goes))
+      (sym (cond-true (goes_over e.msg) (e ∷ []) [] goes))
       (holds-one journal old new history copy e h items same said
       (subst (λ r. StandsFor r.value (history ++ e ∷ [])) (sym rights)
       (law old.rights.value history (e ∷ []) (goes, tt) h.stands)))
 
   pub holds-still : (opening : Opening) (history : List Entry) (item : HistoryItem)
-      → goes_on (entry_in journal item).msg ≡ false → Holds journal opening history
+      → goes_over (entry_in journal item).msg ≡ false → Holds journal opening history
       → Holds journal opening (history ++ passing (entry_in journal item ∷ []))
   holds-still opening history item stays h =
       let e = entry_in journal item in
       subst (λ es. Holds journal opening (history ++ es))
-      (sym (cond-false (goes_on e.msg) (e ∷ []) [] stays))
+      (sym (cond-false (goes_over e.msg) (e ∷ []) [] stays))
       (subst (Holds journal opening) (sym (append-nil history)) h)
 
 pub some-unwrap : {X : Type 0} (o : Option X) (d : X) → is_some o ≡ true → o ≡ Some (unwrap_or o d)

@@ -4,7 +4,7 @@ ghost use Rattle.std.specs.Prelude.{◌≡◌, ◌++◌, ◌∷◌, List, [], tr
 ghost use Rattle.std.specs.Prelude.{All, IfOk, IfSome, OnOk, OnErr, Some, length};
 ghost use Rattle.std.specs.List.{filter};
 ghost use Rattle.std.specs.Option.{option_map};
-ghost use Rattle.dp_acl.specs.Opening.{command_entry, goes_on};
+ghost use Rattle.dp_acl.specs.Opening.{command_entry, goes_over};
 ghost use Rattle.dp_epochs.specs.declared.event.Event.{Event as Kept};
 ghost use Rattle.dp_epochs.specs.State.{entry_of, is_name};
 ghost use Rattle.dp_messages.specs.declared.message.Entry.{Entry as Piece};
@@ -112,7 +112,7 @@ fn join(alloc: Global, journal: &[Event], event: u32, user: u8) -> Result<Entry,
 
 /// Whether an entry of this message goes on into the next epoch if a reset keeps it.
 fn does_go_on(msg: &Msg) -> bool
-    ensures { result ≡ goes_on msg.now }
+    ensures { result ≡ goes_over msg.now }
 {
     match msg {
         Msg::Draw(_) => true,
@@ -127,7 +127,7 @@ fn does_go_on(msg: &Msg) -> bool
 /// Whether what the event says goes on.
 fn says_kept(journal: &[Event], event: u32) -> bool
     requires { IsSay (slice_get journal.now event) }
-    ensures { result ≡ goes_on (message_of (slice_get journal.now event)) }
+    ensures { result ≡ goes_over (message_of (slice_get journal.now event)) }
 {
     match journal.get(event as usize) {
         Some(Event::Say { msg, .. }) => does_go_on(msg),
@@ -138,7 +138,7 @@ fn says_kept(journal: &[Event], event: u32) -> bool
 /// Whether the entry goes on into the next epoch if a reset keeps it.
 pub(crate) fn is_kept(journal: &[Event], item: &HistoryItem) -> bool
     requires { IsIn journal.now item.now }
-    ensures { result ≡ goes_on (entry_in journal.now item.now).msg }
+    ensures { result ≡ goes_over (entry_in journal.now item.now).msg }
 {
     match item {
         HistoryItem::Said { event, .. } => says_kept(journal, *event),
@@ -152,7 +152,7 @@ pub(crate) fn is_kept(journal: &[Event], item: &HistoryItem) -> bool
 pub fn count_kept(journal: &[Event], items: &[HistoryItem]) -> usize
     requires { All (IsIn journal.now) items.now }
     ensures { result
-        ≡ length (filter (λ e. goes_on e.msg) (map (entry_in journal.now) items.now)) }
+        ≡ length (filter (λ e. goes_over e.msg) (map (entry_in journal.now) items.now)) }
 {
     let mut count = 0;
     for item in items {

@@ -6,7 +6,7 @@ ghost use Rattle.std.specs.Prelude.{IfOk, OnOk, slice_get, slice_index_or};
 ghost use Rattle.std.specs.List.{filter, filter_map};
 ghost use Rattle.dp_messages.specs.declared.message.Entry.{Entry as Piece};
 ghost use Rattle.dp_epochs.specs.declared.event.Event.{Event as Kept};
-ghost use Rattle.dp_acl.specs.Opening.{server_entry, command_entry, last_join, goes_on};
+ghost use Rattle.dp_acl.specs.Opening.{server_entry, command_entry, last_join, goes_over};
 ghost use Rattle.dp_epochs.specs.State.{user_ids};
 ghost use Rattle.dp_history.specs.Users.{mark, AreJoined};
 ghost use Rattle.dp_history.specs.Items.{join_of, IsIn, IsPart, commands_in, entry_in};
@@ -121,7 +121,7 @@ impl Opening {
         requires { IsIn journal.now item.now }
         ensures { OnOk result ((history : List Piece) → Holds journal.now self.old history
             → Holds journal.now self.new
-            (history ++ filter (λ e. goes_on e.msg) (entry_in journal.now item.now ∷ []))) }
+            (history ++ filter (λ e. goes_over e.msg) (entry_in journal.now item.now ∷ []))) }
     {
         kept_change_no_right();
         if !is_kept(journal, item) {
@@ -143,7 +143,7 @@ impl Opening {
         requires { All (IsIn journal.now) items.now }
         ensures { OnOk result ((history : List Piece) → Holds journal.now self.old history
             → Holds journal.now self.new
-            (history ++ filter (λ e. goes_on e.msg) (map (entry_in journal.now) items.now))) }
+            (history ++ filter (λ e. goes_over e.msg) (map (entry_in journal.now) items.now))) }
     {
         self.live.reserve(count)?;
         for item in items {

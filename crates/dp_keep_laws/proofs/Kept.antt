@@ -11,7 +11,7 @@ use Rattle.dp_board.specs.Laws.{depth_in, depth_after, OthersDoNotCount}
 use Rattle.dp_plain.specs.Board.{Board, empty_board}
 use Rattle.dp_plain.specs.Commands.{draw, draw_all}
 use Rattle.dp_replay.specs.Replay.{replay, replay_from, user_act_of, undo_depth, depth_in_force}
-use Rattle.dp_acl.specs.Opening.{goes_on, kept_from, opening}
+use Rattle.dp_acl.specs.Opening.{goes_over, kept_entries, opening}
 use Rattle.dp_epochs.specs.declared.event.Event.TheVariants.{Say}
 use Rattle.dp_epochs.specs.declared.event.Reply.TheVariants.{Ignored}
 use Rattle.dp_epochs.specs.State.{State, epoch_of, present_users, sent_commands, kept_by}
@@ -49,23 +49,23 @@ cut-depth place history more may =
 -- what is kept shows the same as what was there
 kept-drawn : OthersDoNotCount Draw → (depth place : ℕ) (history more : List Entry)
     → MayBeCut place history more
-    → drawn_commands depth (map user_act_of (kept_from (Some place) history ++ more))
+    → drawn_commands depth (map user_act_of (kept_entries (Some place) history ++ more))
     ≡ drawn_commands depth (map user_act_of (drop place history ++ more))
 kept-drawn law depth place history more may =
     let rest = drop place history in
-    ap (drawn_commands depth) (map-append user_act_of (kept_from (Some place) history) more)
-    ∙ drawn-left_out law (λ e. goes_on e.msg) depth [] rest (map user_act_of more)
+    ap (drawn_commands depth) (map-append user_act_of (kept_entries (Some place) history) more)
+    ∙ drawn-left_out law (λ e. goes_over e.msg) depth [] rest (map user_act_of more)
     (left_out rest may.depths)
     ∙ ap (drawn_commands depth) (sym (map-append user_act_of rest more))
 
 pub kept-shows : OthersDoNotCount Draw → (history more : List Entry) (place : ℕ)
     → MayBeCut place history more
     → replay_from draw (replay (take place history)) (depth_in_force history)
-    (kept_from (Some place) history ++ more)
+    (kept_entries (Some place) history ++ more)
     ≡ replay (history ++ more)
 kept-shows law history more place may =
     let first = replay (take place history) in
-    let kept = kept_from (Some place) history ++ more in
+    let kept = kept_entries (Some place) history ++ more in
     let depth = depth_in_force (take place history) in
     ap (λ d. replay_from draw first d kept) (cut-depth place history more may)
     ∙ ap (fold draw first) (kept-drawn law depth place history more may)
@@ -86,33 +86,33 @@ OpeningsGoOn =
 pub opening-same : OthersDoNotCount Draw → OpeningsGoOn → (epoch : ℕ) (history more : List Entry)
     (present : List ℕ) (commands : List Draw) (place : ℕ) → MayBeCut place history more
     → draw_all empty_board commands ≡ replay (take place history)
-    → replay (opening epoch history present commands (kept_from (Some place) history) ++ more)
+    → replay (opening epoch history present commands (kept_entries (Some place) history) ++ more)
     ≡ replay (history ++ more)
 opening-same law go_on epoch history more present commands place may draws =
-    go_on epoch history present commands (kept_from (Some place) history) more
+    go_on epoch history present commands (kept_entries (Some place) history) more
     ∙ ap (λ board. replay_from draw board (depth_in_force history)
-    (kept_from (Some place) history ++ more)) draws
+    (kept_entries (Some place) history ++ more)) draws
     ∙ kept-shows law history more place may
 
 -- the live history after the end of the reset
 live-opened : (s : State) (conn place : ℕ) → (ends : EndsKeeping s conn place)
     → (after_event s (Say conn reset_end)).live
     ≡ opening (epoch_of s + 1) s.live (present_users s) ends.stream.commands
-    (kept_from (Some place) s.live)
+    (kept_entries (Some place) s.live)
 live-opened s conn place ends =
     ap (λ o. (option_map_or (says_by s conn reset_end) o (stays s Ignored)).state.live) ends.is_open
     ∙ ap (λ d. (acted_by s conn ends.connection reset_end d).state.live) ends.opens
     ∙ ap (λ st. opening (epoch_of s + 1) s.live (present_users s) (sent_commands st)
     (kept_by st s.live)) ends.sent
     ∙ ap (λ at. opening (epoch_of s + 1) s.live (present_users s) ends.stream.commands
-    (kept_from at s.live)) ends.keeps
+    (kept_entries at s.live)) ends.keeps
 
 -- the openings show the same
 abbrev pub OpeningsShowTheSame : Type 0
 OpeningsShowTheSame =
     (epoch : ℕ) (history more : List Entry) (present : List ℕ) (commands : List Draw) (place : ℕ)
     → MayBeCut place history more → draw_all empty_board commands ≡ replay (take place history)
-    → replay (opening epoch history present commands (kept_from (Some place) history) ++ more)
+    → replay (opening epoch history present commands (kept_entries (Some place) history) ++ more)
     ≡ replay (history ++ more)
 
 pub keeping-more : OpeningsShowTheSame → (s : State) (conn place : ℕ) (more : List Entry)

@@ -14,7 +14,7 @@ use Rattle.dp_board.specs.declared.act.UserAct.{UserAct}
 use Rattle.dp_board.specs.Commands.{drawn_commands}
 use Rattle.dp_board.specs.Laws.{depth_in, HasNoDepth, depth_after, OthersDoNotCount}
 use Rattle.dp_replay.specs.Replay.{act_of_meta, act_of_message, act_of, user_act_of}
-use Rattle.dp_acl.specs.Opening.{goes_on}
+use Rattle.dp_acl.specs.Opening.{goes_over}
 
 -- the entry has no effect on strokes, if it fails the test
 abbrev IsLeftOut : (Entry → Bool) → Entry → Type 0
@@ -52,7 +52,7 @@ other-meta : (m : Meta) → depth_in (act_of_meta {Op = Draw} m) ≡ None
 other-meta (UndoDepth depth) free = let wrong : Some depth ≡ None = free in cc
 other-meta m free = refl
 
-other-message : (sender : ℕ) (m : Msg) → goes_on m ≡ false
+other-message : (sender : ℕ) (m : Msg) → goes_over m ≡ false
     → depth_in (act_of_message sender m) ≡ None → act_of_message sender m ≡ Other
 other-message sender (msg.Meta m) stays free = other-meta m free
 other-message sender (msg.Draw command) stays free = let wrong : true ≡ false = stays in cc
@@ -63,7 +63,7 @@ other-message sender (msg.Part command) stays free = refl
 other-message sender (msg.Opaque kind body) stays free = refl
 
 pub left_out : (entries : List Entry) → HasNoDepth (map user_act_of entries)
-    → AllByRecursion (IsLeftOut (λ e. goes_on e.msg)) entries
+    → AllByRecursion (IsLeftOut (λ e. goes_over e.msg)) entries
 left_out [] free = tt
 left_out (e ∷ entries) free =
     (λ stays. other-message e.user e.msg stays free.0, left_out entries free.1)

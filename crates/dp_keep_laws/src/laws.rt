@@ -1,7 +1,7 @@
 //! Laws of the definitions. Each function does nothing but call others: its contract is the law.
 
 ghost use Rattle.std.specs.Prelude.{◌≡◌, ℕ, Some, List, [], ◌∷◌, ◌++◌, take, drop, length};
-ghost use Rattle.dp_acl.specs.Opening.{kept_from, opening};
+ghost use Rattle.dp_acl.specs.Opening.{kept_entries, opening};
 ghost use Rattle.dp_board.specs.Commands.{drawn_commands};
 ghost use Rattle.dp_board.specs.Laws.{depth_after};
 ghost use Rattle.dp_messages.specs.declared.message.Entry.{Entry};
@@ -62,12 +62,12 @@ pub fn openings_go_on()
 pub fn kept_entries_show_the_same()
     ensures boards { (history more : List Entry) (place : ℕ) → MayBeCut place history more
         → replay_from draw (replay (take place history)) (depth_in_force history)
-        (kept_from (Some place) history ++ more)
+        (kept_entries (Some place) history ++ more)
         ≡ replay (history ++ more) }
     ensures openings { (epoch : ℕ) (history more : List Entry) (present : List ℕ)
         (commands : List Command) (place : ℕ) → MayBeCut place history more
         → draw_all empty_board commands ≡ replay (take place history)
-        → replay (opening epoch history present commands (kept_from (Some place) history) ++ more)
+        → replay (opening epoch history present commands (kept_entries (Some place) history) ++ more)
         ≡ replay (history ++ more) }
 {
     others_do_not_count::<Draw>();

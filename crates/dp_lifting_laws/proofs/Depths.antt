@@ -18,7 +18,7 @@ use Rattle.dp_acl.specs.LookBack.{numbers_below, joined, set_depth, LayerRule}
 use Rattle.dp_acl.specs.Rights.{rule_of, depth_of}
 use Rattle.dp_acl.specs.Carried.{acl_with, carried, carried_owners, carried_trusted}
 use Rattle.dp_acl.specs.Carried.{carried_locks, carried_tiers, carried_rule, carried_rules}
-use Rattle.dp_acl.specs.Opening.{server_entry, command_entry, last_join, goes_on, GoOn, opening}
+use Rattle.dp_acl.specs.Opening.{server_entry, command_entry, last_join, goes_over, GoOver, opening}
 use Rattle.dp_epochs.specs.declared.effect.Effect.{Effect}
 use Rattle.dp_epochs.specs.declared.effect.Effect.TheVariants.{Placed, Filtered, Joined, Left}
 use Rattle.dp_epochs.specs.declared.effect.Effect.TheVariants.{Dropped, Reopened}
@@ -110,16 +110,16 @@ rights-none history present h =
     subst (λ ms. SetsNone (map server_entry ms)) (sym (carried-first history present h))
     (first_rights-none history present)
 
-going-sets-none : (m : Msg) → goes_on m ≡ true → set_depth m ≡ None
+going-sets-none : (m : Msg) → goes_over m ≡ true → set_depth m ≡ None
 going-sets-none (msg.Meta (meta.UndoDepth depth)) goes = cc
 going-sets-none m goes = refl
 
-kept-none : (kept : List Entry) → GoOn kept → SetsNone kept
+kept-none : (kept : List Entry) → GoOver kept → SetsNone kept
 kept-none [] go = tt
 kept-none (e ∷ es) go = (going-sets-none e.msg go.0, kept-none es go.1)
 
 opening-none : (epoch : ℕ) (history : List Entry) (present : List ℕ) (commands : List Draw)
-    (kept : List Entry) → GoOn kept → SetsNone history
+    (kept : List Entry) → GoOver kept → SetsNone history
     → SetsNone (opening epoch history present commands kept)
 opening-none epoch history present commands kept go h =
     let joins = filter_map (last_join history) present in

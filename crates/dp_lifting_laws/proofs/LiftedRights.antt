@@ -21,7 +21,7 @@ use Rattle.dp_acl.specs.Rights.{depth_of, lets_paint}
 use Rattle.dp_acl.specs.Permitted.{permitted}
 use Rattle.dp_acl.specs.Carried.{acl_with, carried}
 use Rattle.dp_acl.specs.Opening.{server_entry, command_entry, last_join, carried_entries, opening}
-use Rattle.dp_acl.specs.Opening.{goes_on, kept_from}
+use Rattle.dp_acl.specs.Opening.{goes_over, kept_entries}
 use Rattle.dp_acl.proofs.LawLemmas.{Look, look, look_after, but_rule, painted_layer}
 use Rattle.dp_acl.proofs.LawLemmas.{permitted-same}
 use Rattle.dp_acl.proofs.LookLemmas.{look_all, look-all}
@@ -177,18 +177,18 @@ carried_entries-lifted history present commands kept =
     ∙ sym (map-append lifted_entry (joins ++ rights ++ rest) kept)
 
 -- lifted entries go on as the entries do
-goes-lifted : (m : Msg) → goes_on (lifted_message m) ≡ goes_on m
+goes-lifted : (m : Msg) → goes_over (lifted_message m) ≡ goes_over m
 goes-lifted (msg.Opaque kind body) = refl
 goes-lifted m = refl
 
 passing-lifted : (entries : List Entry)
-    → filter (λ e. goes_on e.msg) (lifted_entries entries)
-    ≡ lifted_entries (filter (λ e. goes_on e.msg) entries)
+    → filter (λ e. goes_over e.msg) (lifted_entries entries)
+    ≡ lifted_entries (filter (λ e. goes_over e.msg) entries)
 passing-lifted [] = refl
 passing-lifted (e ∷ es) =
     ap₂ (λ (b : Bool) (xs : List Entry). cond b (lifted_entry e ∷ xs) xs) (goes-lifted e.msg)
     (passing-lifted es)
-    ∙ by_case (goes_on e.msg) (filter (λ e. goes_on e.msg) es)
+    ∙ by_case (goes_over e.msg) (filter (λ e. goes_over e.msg) es)
   where
     by_case : (b : Bool) (xs : List Entry)
         → cond b (lifted_entry e ∷ lifted_entries xs) (lifted_entries xs)
@@ -203,10 +203,10 @@ kept-lifted None history = refl
 kept-lifted (Some stream) history = from stream.place
   where
     from : (place : Option ℕ)
-        → kept_from place (lifted_entries history) ≡ lifted_entries (kept_from place history)
+        → kept_entries place (lifted_entries history) ≡ lifted_entries (kept_entries place history)
     from None = refl
     from (Some at) =
-        ap (filter (λ (e : Entry). goes_on e.msg)) (drop-map lifted_entry at history)
+        ap (filter (λ (e : Entry). goes_over e.msg)) (drop-map lifted_entry at history)
         ∙ passing-lifted (drop at history)
 
 -- an epoch opens after lifted entries as after the entries, lifted

@@ -25,7 +25,7 @@ use Rattle.dp_messages.specs.declared.message.Msg.{Msg}
 use Rattle.dp_messages.specs.declared.message.Msg.TheVariants as msg
 use Rattle.dp_messages.specs.declared.message.Entry.{Entry}
 use Rattle.dp_messages.specs.Messages.{HasSpelling, kind_of}
-use Rattle.dp_acl.specs.Opening.{server_entry, goes_on, kept_from, part_limit, opening_limit}
+use Rattle.dp_acl.specs.Opening.{server_entry, goes_over, kept_entries, part_limit, opening_limit}
 use Rattle.dp_acl.specs.Laws.{SpelledIdsAreInOrder}
 use Rattle.dp_epochs.specs.declared.connection.Ending.TheVariants as ending
 use Rattle.dp_epochs.specs.declared.event.Event.{Event}
@@ -229,10 +229,10 @@ kept-spelled : (stream : Option Stream) (history : List Entry) → AreSpelledEnt
 kept-spelled None history each = All-nil (λ (e : Entry). HasSpelling e.msg)
 kept-spelled (Some stream) history each = from stream.place
   where
-    from : (place : Option ℕ) → AreSpelledEntries (kept_from place history)
+    from : (place : Option ℕ) → AreSpelledEntries (kept_entries place history)
     from None = All-nil (λ (e : Entry). HasSpelling e.msg)
     from (Some place) =
-        All-filter (λ (e : Entry). goes_on e.msg) (λ (e : Entry). HasSpelling e.msg)
+        All-filter (λ (e : Entry). goes_over e.msg) (λ (e : Entry). HasSpelling e.msg)
         (drop place history) (All-drop (λ (e : Entry). HasSpelling e.msg) place history each)
 
 -- no more than the history has

@@ -8,7 +8,7 @@ use Rattle.std.proofs.lemmas.List.Sums.{fold-append}
 use Rattle.dp_msg_draw.specs.declared.draw.Draw.{Draw}
 use Rattle.dp_messages.specs.declared.message.Entry.{Entry}
 use Rattle.dp_messages.specs.Properties.{carried_in}
-use Rattle.dp_acl.specs.Opening.{opening, kept_from}
+use Rattle.dp_acl.specs.Opening.{opening, kept_entries}
 use Rattle.dp_plain.specs.Board.{empty_board}
 use Rattle.dp_plain.specs.Commands.{draw_all}
 use Rattle.dp_replay.specs.Replay.{replay}
@@ -91,11 +91,11 @@ shows-on : OpeningsShowTheSame → (commands : List Draw) (c : client.State) (m 
     (before : List Entry) (present : List ℕ) (others : List Entry)
     → draw_all empty_board commands ≡ replay (take place before)
     → c.taken
-    ≡ take m (opening epoch before present commands (kept_from (Some place) before) ++ others)
+    ≡ take m (opening epoch before present commands (kept_entries (Some place) before) ++ others)
     → ShowsOn place before c
 shows-on same commands c m epoch place before present others draws prefix =
     λ first more is long may.
-    let kept = kept_from (Some place) before in
+    let kept = kept_entries (Some place) before in
     let all = opening epoch before present commands kept in
     let those : first ++ more ≡ take m (all ++ others) = sym is ∙ prefix in
     let count = same-carried m first more others epoch before present commands kept those

@@ -11,7 +11,7 @@ use Rattle.dp_messages.specs.declared.message.Msg.{Msg}
 use Rattle.dp_messages.specs.declared.message.Entry.{Entry}
 use Rattle.dp_messages.specs.Messages.{HasSpelling}
 use Rattle.dp_messages.specs.Properties.{carried_by, carried_in}
-use Rattle.dp_acl.specs.Opening.{opening, carried_entries, kept_from}
+use Rattle.dp_acl.specs.Opening.{opening, carried_entries, kept_entries}
 use Rattle.dp_plain.specs.Board.{Board, empty_board}
 use Rattle.dp_plain.specs.Commands.{draw, draw_all}
 use Rattle.dp_replay.specs.Replay.{replay, replay_from, depth_in_force}
@@ -218,10 +218,10 @@ shown laws before later number epoch keeps sender each h other =
     (λ p there. λ at.
     let hp = at_some (participant_of w other) (IsParticipant (state_of w.past) other) p
     (world.participants other) there in
-    subst (λ history. GoesOnFrom board (kept_from place history) p.state)
+    subst (λ history. GoesOnFrom board (kept_entries place history) p.state)
     (sym (before-is epoch o.before (state_of w.past) o.last))
     (goes-on laws board (snapshot board) p.state
-    (length p.state.taken) epoch o.before o.present (kept_from place o.before) o.more
+    (length p.state.taken) epoch o.before o.present (kept_entries place o.before) o.more
     (drawn laws before later number epoch keeps sender each h)
     (hp.prefix ∙ ap (λ k. take (length p.state.taken) (history_of (state_of w.past) k)) at
     ∙ ap (take (length p.state.taken)) o.history))))

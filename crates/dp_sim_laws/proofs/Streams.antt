@@ -12,7 +12,7 @@ use Rattle.dp_messages.specs.declared.message.Msg.{Msg}
 use Rattle.dp_messages.specs.declared.message.Msg.TheVariants as msg
 use Rattle.dp_messages.specs.declared.message.Entry.{Entry}
 use Rattle.dp_messages.specs.Properties.{is_disconnect}
-use Rattle.dp_acl.specs.Opening.{kept_from, opening}
+use Rattle.dp_acl.specs.Opening.{kept_entries, opening}
 use Rattle.dp_acl.specs.Rights.{is_operator}
 use Rattle.dp_epochs.specs.declared.connection.Connection.{Connection}
 use Rattle.dp_epochs.specs.declared.connection.Ending.TheVariants as ending
@@ -242,7 +242,7 @@ pub record OpenedWith (epoch : ℕ) (place : Option ℕ) (commands : List Draw) 
     pub more : List Entry
     pub last : EndedBefore epoch before s
     pub history : history_of s epoch
-        ≡ opening epoch before present commands (kept_from place before) ++ more
+        ≡ opening epoch before present commands (kept_entries place before) ++ more
 
 if-else : {X : Type 0} (b : Bool) (o : Option X) (x : X) → (if b then o else None) ≡ Some x
     → (b ≡ true) × (o ≡ Some x)
@@ -378,7 +378,7 @@ module _ (laws : Leading) where
     last = last;
     history = goes.1 ∙ ap (λ entries. entries ++ goes.0) h.history
         ∙ append_assoc
-        (opening epoch h.before h.present commands (kept_from place h.before)) h.more goes.0;
+        (opening epoch h.before h.present commands (kept_entries place h.before)) h.more goes.0;
   }
 
   opened-shut : (epoch : ℕ) (place : Option ℕ) (commands : List Draw) (s : State) (other : ℕ)

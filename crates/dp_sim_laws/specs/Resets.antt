@@ -6,7 +6,7 @@ use Rattle.std.specs.Prelude.{Some}
 use Rattle.dp_msg_draw.specs.declared.draw.Draw.{Draw}
 use Rattle.dp_messages.specs.declared.message.Entry.{Entry}
 use Rattle.dp_messages.specs.Properties.{carried_in}
-use Rattle.dp_acl.specs.Opening.{kept_from}
+use Rattle.dp_acl.specs.Opening.{kept_entries}
 use Rattle.dp_plain.specs.Board.{Board}
 use Rattle.dp_plain.specs.Commands.{draw}
 use Rattle.dp_replay.specs.Replay.{replay, replay_from, depth_in_force}
@@ -75,7 +75,7 @@ pub record IsTakenUp (before later : List Action) (number : ℕ) (keeps : Bool) 
 -- doesn't keep, there are none.
 abbrev pub kept_over : Bool → client.State → State → ℕ → List Entry
 kept_over keeps sender s epoch =
-    kept_from (place_in (reset_begin keeps (length sender.taken))) (history_of s (epoch - 1))
+    kept_entries (place_in (reset_begin keeps (length sender.taken))) (history_of s (epoch - 1))
 
 -- Where the client has taken all with which its epoch opened, these kept entries at its end, and
 -- more, it shows the board with these and the more drawn after it, from the depth of undo on that

@@ -19,7 +19,7 @@ use Rattle.dp_msg_meta.specs.declared.message.Meta.{Meta}
 use Rattle.dp_msg_meta.specs.declared.message.Meta.TheVariants.{ResetMark}
 use Rattle.dp_acl.specs.Carried.{carried}
 use Rattle.dp_acl.specs.Opening.{carried_entries, opening, opening_limit}
-use Rattle.dp_acl.specs.Opening.{command_entry, goes_on, last_join, part_limit, server_entry}
+use Rattle.dp_acl.specs.Opening.{command_entry, goes_over, last_join, part_limit, server_entry}
 use Rattle.dp_epochs.specs.State.{State, Stream, epoch_of, is_present, present_users}
 use Rattle.dp_epochs.specs.State.{user_ids, fits_reset, part_bytes, reset_byte_limit}
 use Rattle.dp_epochs.specs.State.{sent_commands, kept_by}
@@ -191,7 +191,7 @@ module _ (s : State) (t : Seen) (are : AreOf s t) where
       )
 
   abbrev passing : List HistoryItem → List Entry
-  passing items = filter (λ e. goes_on e.msg) (map (entry_in t.journal) items)
+  passing items = filter (λ e. goes_over e.msg) (map (entry_in t.journal) items)
 
   -- what the reset keeps, beside the journal
   pub kept-is : passing (drop (start_of t.owner t.place (length t.live)) t.live) ≡ kept
@@ -203,7 +203,7 @@ module _ (s : State) (t : Seen) (are : AreOf s t) where
       by_case : (o p : Option ℕ) → stream_in t.journal o p t.parts ≡ s.stream
           → passing (drop (start_of o p (length t.live)) t.live) ≡ kept_by s.stream s.live
       by_case (Some conn) (Some at) is =
-          ap (filter (λ (e : Entry). goes_on e.msg))
+          ap (filter (λ (e : Entry). goes_over e.msg))
           (sym (drop-map (entry_in t.journal) at t.live) ∙ ap (drop at) are.entries)
           ∙ ap (λ o. kept_by o s.live) is
       by_case (Some conn) None is = none ∙ ap (λ o. kept_by o s.live) is

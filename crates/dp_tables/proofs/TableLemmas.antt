@@ -72,7 +72,7 @@ use Rattle.dp_tables.specs.Ready.{unboxed, server_items}
 use Rattle.std.specs.Global.{Box}
 use Rattle.dp_tables.specs.Ready.{items_after, IsWithSupply, AreFramesWith, epoch_with, marks_after}
 use Rattle.dp_tables.specs.Ready.{opens_after, quiet_after, closed_in, unmarked, is_sender}
-use Rattle.dp_tables.specs.Ready.{owner_after, place_after, parts_after, bytes_after, MayKeep}
+use Rattle.dp_tables.specs.Ready.{owner_after, next_place, parts_after, bytes_after, MayKeep}
 use Rattle.dp_lists.proofs.Numbered.{number-found}
 use Rattle.dp_history.proofs.Ranges.{lists-user, find_user-passes}
 use Rattle.dp_tables.proofs.Holders.{any-marked, mark-set_same, mark-set_other, marks-adds}
@@ -455,7 +455,7 @@ reset-kept : (s : State) (journal : List Event) (owner place : Option ℕ) (part
     (bytes : ℕ) → IsResetIn s.stream journal owner place parts bytes → (e : Event)
     (effect : Effect) → IsEffect s e effect → (size : ℕ) → PartSize e size
     → IsResetIn (stream_after e s.stream effect) (journal ++ e ∷ []) (owner_after effect owner)
-    (place_after e effect place) (parts_after (length journal) effect owner parts)
+    (next_place e effect place) (parts_after (length journal) effect owner parts)
     (bytes_after size effect owner bytes)
 reset-kept s journal owner place parts bytes h e (Left conn c next) cause size size_of =
     reset-left s.stream journal owner place parts bytes h e conn
@@ -637,7 +637,7 @@ module _ (s : State) (t : Seen) (are : AreOf s t) where
         present = marks_after effect t.present;
         opens = opens_after (length t.journal) effect t.opens;
         owner = owner_after effect t.owner;
-        place = place_after e effect t.place;
+        place = next_place e effect t.place;
         parts = parts_after (length t.journal) effect t.owner t.parts;
         part_bytes = bytes_after size effect t.owner t.part_bytes;
       })
@@ -649,7 +649,7 @@ module _ (s : State) (t : Seen) (are : AreOf s t) where
         epoch = epoch-kept t.journal s e effect cause supply t.epoch is are.epoch
             ∙ sym (ap (λ a. length a.state.ended) made_is);
         reset = subst (λ o. IsResetIn o J (owner_after effect t.owner)
-            (place_after e effect t.place) (parts_after (length t.journal) effect t.owner t.parts)
+            (next_place e effect t.place) (parts_after (length t.journal) effect t.owner t.parts)
             (bytes_after size effect t.owner t.part_bytes))
             (sym (ap (λ a. a.state.stream) made_is))
             (reset-kept s t.journal t.owner t.place t.parts t.part_bytes are.reset e effect cause
@@ -900,7 +900,7 @@ pub record IsKept (old : Inside) (e : Event) (effect : Effect) (supply : Supply)
   pub present : new.present ≡ marks_after effect old.present
   pub opens : new.opens ≡ opens_after (length old.journal.items) effect old.opens
   pub owner : new.owner ≡ owner_after effect old.owner
-  pub place : new.place ≡ place_after e effect old.place
+  pub place : new.place ≡ next_place e effect old.place
   pub parts : new.parts.items
       ≡ parts_after (length old.journal.items) effect old.owner old.parts.items
   pub part_bytes : new.part_bytes
@@ -960,7 +960,7 @@ tables-kept leads joins made_law old new e effect supply row_length are is keeps
       present = marks_after effect old.present;
       opens = opens_after (length old.journal.items) effect old.opens;
       owner = owner_after effect old.owner;
-      place = place_after e effect old.place;
+      place = next_place e effect old.place;
       parts = parts_after (length old.journal.items) effect old.owner old.parts.items;
       part_bytes = bytes_after (row_length - 6) effect old.owner old.part_bytes;
     }

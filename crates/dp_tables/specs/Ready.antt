@@ -141,9 +141,9 @@ owner_after (Reopened conn connection) owner = None
 owner_after other owner = owner
 
 -- The place that it names, as the event says where one begins. It says nothing if none is sent.
-abbrev pub place_after : Event → Effect → Option ℕ → Option ℕ
-place_after e (Began conn connection) place = place_in (own_message e)
-place_after e other place = place
+abbrev pub next_place : Event → Effect → Option ℕ → Option ℕ
+next_place e (Began conn connection) place = place_in (own_message e)
+next_place e other place = place
 
 -- its parts, if the event is the journal's n-th
 abbrev pub parts_after : ℕ → Effect → Option ℕ → List ℕ → List ℕ

@@ -18,8 +18,8 @@ use Rattle.dp_history.specs.Users.{mark, AreJoined}
 
 -- ---- a reset that is being sent
 
--- the reset that the connection, if there is one, sends by these parts, from the place that it names
--- on, if it names one
+-- the reset that the connection, if there is one, sends by these parts, from the place on that it
+-- names, if it names one
 abbrev pub stream_in : List Event → Option ℕ → Option ℕ → List ℕ → Option Stream
 stream_in journal owner place parts =
     option_map (λ conn. record {
@@ -28,7 +28,7 @@ stream_in journal owner place parts =
       place = place;
     }) owner
 
--- from where on a history, which ends there, is kept by the reset of the connection, if it sends one
+-- from where on a history, which ends there, is kept by the reset of the connection, if one is sent
 abbrev pub start_of : Option ℕ → Option ℕ → ℕ → ℕ
 start_of (Some conn) (Some place) end = place
 start_of (Some conn) None end = end

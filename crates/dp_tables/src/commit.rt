@@ -31,7 +31,7 @@ ghost use Rattle.dp_tables.specs.Ready.{own_entries, own_items, SaysOwn, supplie
 ghost use Rattle.dp_tables.specs.Ready.{unboxed, server_items};
 ghost use Rattle.dp_tables.specs.Ready.{IsWithSupply, AreFramesWith, epoch_with, IsThere};
 ghost use Rattle.dp_tables.specs.Ready.{marks_after, opens_after, quiet_after, closed_in, unmarked};
-ghost use Rattle.dp_tables.specs.Ready.{is_sender, owner_after, place_after, parts_after};
+ghost use Rattle.dp_tables.specs.Ready.{is_sender, owner_after, next_place, parts_after};
 ghost use Rattle.dp_tables.specs.Ready.{bytes_after, MayKeep, IsReady};
 
 use crate::ready::{Ready, Supply};
@@ -185,7 +185,7 @@ fn place_in(event: &Event) -> Option<u32>
 
 /// Notes from where on a reset keeps entries, where the event begins one.
 fn note_place(place: &mut Option<u32>, effect: Effect, event: &Event)
-    ensures { place.new ≡ place_after event.now effect place.old }
+    ensures { place.new ≡ next_place event.now effect place.old }
 {
     if let Effect::Began { .. } = effect {
         *place = place_in(event);

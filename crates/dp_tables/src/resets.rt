@@ -4,7 +4,7 @@ ghost use Rattle.std.specs.Prelude.{◌≡◌, ◌+◌, ◌≤◌, Some, false, 
 ghost use Rattle.std.specs.Prelude.{nat_le};
 ghost use Rattle.std.specs.List.{filter};
 ghost use Rattle.std.specs.Option.{option_map_or};
-ghost use Rattle.dp_acl.specs.Opening.{goes_on, opening, server_entry};
+ghost use Rattle.dp_acl.specs.Opening.{goes_over, opening, server_entry};
 ghost use Rattle.dp_messages.specs.declared.message.Msg.TheVariants as msg;
 ghost use Rattle.dp_epochs.specs.State.{
   epoch_of,
@@ -171,7 +171,7 @@ impl Tables {
     /// The entries from the place on that the reset names which is being sent.
     fn kept_items(&self) -> &[HistoryItem]
         ensures said { All (IsIn self.now.journal) result.now }
-        ensures kept { filter (λ e. goes_on e.msg) (map (entry_in self.now.journal) result.now)
+        ensures kept { filter (λ e. goes_over e.msg) (map (entry_in self.now.journal) result.now)
             ≡ kept_by (state_in self.now).stream (state_in self.now).live }
         ensures few { length result.now ≤ length (state_in self.now).live }
     {

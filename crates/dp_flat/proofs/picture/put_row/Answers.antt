@@ -46,8 +46,8 @@ loop-col-preserved g c =
           (subst (λ (l : List ℕ). GrowsBefore (held c.loop-col.out) (held c.put_chunk.new.out)
           c.put_chunk.new.piece.items (c.loop-col.piece.items ++ l))
           (chunk_text c.args.format board c.args.y col size count c.args.band.colors.now
-          c.args.band.bytes.now c.requires.band (omega arith) (omega arith) (omega arith) (omega arith)
-          (omega arith))
+          c.args.band.bytes.now c.requires.band (omega arith) (omega arith) (omega arith)
+          (omega arith) (omega arith))
           c.in_ok-put_chunk.ensures.before));
       kept = c.in_ok-put_chunk.ensures.cause.kept ∙ c.loop-col.invariant.kept;
     }

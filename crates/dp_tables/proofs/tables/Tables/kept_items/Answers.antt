@@ -1,6 +1,6 @@
 use Rattle.std.proofs.Common.{◌≡◌, ◌≤◌, All, length, map, drop, sym, ap, subst, ◌∙◌, arith}
 use Rattle.std.specs.List.{filter}
-use Rattle.dp_acl.specs.Opening.{goes_on}
+use Rattle.dp_acl.specs.Opening.{goes_over}
 use Rattle.dp_epochs.specs.State.{kept_by}
 use Rattle.dp_history.specs.Items.{entry_in, IsIn}
 use Rattle.dp_tables.specs.SessionLog.{state_in}
@@ -32,9 +32,9 @@ returns-clause-kept c =
     ≡ drop (start_of t.owner t.place (length t.live.items)) t.live.items =
     c.rest_of.ensures ∙ ap (drop c.start_of-from.result) c.deref.ensures.value
     ∙ ap (λ n. drop n t.live.items) from in
-    subst (λ j. filter (λ e. goes_on e.msg) (map (entry_in j) c.rest_of.result.now)
+    subst (λ j. filter (λ e. goes_over e.msg) (map (entry_in j) c.rest_of.result.now)
     ≡ kept_by s.stream s.live) (ap (λ l. l.journal) c.self.view_is)
-    (ap (λ xs. filter (λ e. goes_on e.msg) (map (entry_in t.journal.items) xs)) items
+    (ap (λ xs. filter (λ e. goes_over e.msg) (map (entry_in t.journal.items) xs)) items
     ∙ kept-is s (seen t) are)
 
 pub returns-clause-few : goal.returns-clause-few

@@ -4,7 +4,7 @@ use Rattle.std.specs.List.{filter, filter_map}
 use Rattle.dp_msg_meta.specs.Fields.{RiseFrom}
 use Rattle.dp_msg_meta.specs.declared.message.Meta.TheVariants.{ResetMark}
 use Rattle.dp_acl.specs.Carried.{carried}
-use Rattle.dp_acl.specs.Opening.{server_entry, command_entry, goes_on, last_join, opening}
+use Rattle.dp_acl.specs.Opening.{server_entry, command_entry, goes_over, last_join, opening}
 use Rattle.dp_epochs.specs.State.{epoch_of, user_ids, present_users, sent_commands, kept_by}
 use Rattle.dp_tables.specs.SessionLog.{state_in}
 use Rattle.dp_tables.specs.Inside.{seen}
@@ -47,7 +47,7 @@ overflow_add-carried-3 c =
     let journal = rw c.deref.ensures.value at c.count_kept-kept.ensures in
     let kept : c.count_kept-kept.result ≡ length (kept_by s.stream s.live) =
     journal
-    ∙ ap (λ j. length (filter (λ e. goes_on e.msg) (map (entry_in j) items)))
+    ∙ ap (λ j. length (filter (λ e. goes_over e.msg) (map (entry_in j) items)))
     (ap (λ l. l.journal) c.self.view_is)
     ∙ ap length c.kept_items-items.ensures.kept in
     omega (
@@ -74,7 +74,7 @@ overflow_cast-carried c =
     let journal = rw c.deref.ensures.value at c.count_kept-kept.ensures in
     let kept : c.count_kept-kept.result ≡ length (kept_by s.stream s.live) =
     journal
-    ∙ ap (λ j. length (filter (λ e. goes_on e.msg) (map (entry_in j) items)))
+    ∙ ap (λ j. length (filter (λ e. goes_over e.msg) (map (entry_in j) items)))
     (ap (λ l. l.journal) c.self.view_is)
     ∙ ap length c.kept_items-items.ensures.kept in
     omega (
@@ -101,8 +101,8 @@ returns c =
     let metas_are : metas ≡ carried s.live present =
     c.in_ok-metas.ensures s.live are.stands ∙ ap (carried s.live) c.in_ok-present.ensures in
     let items = c.kept_items-items.result.now in
-    let kept : filter (λ e. goes_on e.msg) (map (entry_in J) items) ≡ kept_by s.stream s.live =
-    ap (λ j. filter (λ e. goes_on e.msg) (map (entry_in j) items)) view
+    let kept : filter (λ e. goes_over e.msg) (map (entry_in J) items) ≡ kept_by s.stream s.live =
+    ap (λ j. filter (λ e. goes_over e.msg) (map (entry_in j) items)) view
     ∙ c.kept_items-items.ensures.kept in
     let count = length c.as_slice.result.now + c.len.result + c.len-2.result
     + c.count_kept-kept.result in
