@@ -33,7 +33,8 @@ pub fn commands_change_no_right()
 
 /// What a reset keeps of a history goes on, and no user joins by entries that do.
 pub fn kept_go_on()
-    ensures go_on { (place : Option ℕ) (history : List Entry) → GoOver (kept_entries place history) }
+    ensures go_on { (place : Option ℕ) (history : List Entry)
+        → GoOver (kept_entries place history) }
     ensures joins { (entries : List Entry) (user : ℕ) → GoOver entries
         → filter (is_join_of user) entries ≡ [] }
 {}
