@@ -1,7 +1,8 @@
 //! A recording that is played by workers, through the program's top call.
 
-use dp_app_runs::{gated, words_of};
+use dp_app_runs::{outcome_over, words_of};
 use dp_io::{MemSink, MemSource};
+use dp_keeper::{Rows, SureKeeper};
 use dp_wire::{Gate, MemWire};
 use std::alloc::Global;
 use std::process::Abort;
@@ -68,7 +69,8 @@ fn gives_up<R: Threads + Wait + Sync + Abort>(rt: &R, alloc: Global, words: &str
     let mut output = MemSink::new(alloc, 30_000, 4096, Vec::new(alloc)).expect(rt, "memory");
     let mut diag = MemSink::new(alloc, 100, 100, Vec::new(alloc)).expect(rt, "memory");
     let wires: Vec<MemWire> = Vec::new(alloc);
-    let ran = gated(
+    let keeper = SureKeeper::new(Rows::new(alloc));
+    let ran = outcome_over(
         rt,
         alloc,
         &words,
@@ -76,6 +78,7 @@ fn gives_up<R: Threads + Wait + Sync + Abort>(rt: &R, alloc: Global, words: &str
         &mut output,
         &mut diag,
         wires,
+        keeper,
         &gate,
     );
     assert_eq!(rt; ran.status, 0);
@@ -83,8 +86,8 @@ fn gives_up<R: Threads + Wait + Sync + Abort>(rt: &R, alloc: Global, words: &str
     gate.gave_up.load(Ordering::SeqCst) == 1
 }
 
-/// Two tiles are drawn at the same time where there are two workers or more, and one after the
-/// other where there is one.
+/// Two tiles are drawn at the same time if there are two workers or more, and one after the other if
+/// there is one.
 #[test]
 fn tiles_at_the_same_time(rt: HostRuntime) {
     let alloc = rt.alloc();
