@@ -7,7 +7,7 @@ use crate::tables::{Does, Step};
 use dp_lines::put_hex;
 use std::alloc::{AllocError, Global};
 
-/// How a run ends where a step wants more frames than came whole, and how many bytes are sent
+/// How a run ends if a step wants more frames than came whole, and how many bytes are sent
 /// before a write fails.
 #[derive(Drop)]
 struct Limits {

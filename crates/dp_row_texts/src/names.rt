@@ -20,7 +20,7 @@ impl<'a> Names<'a> {
     }
 }
 
-/// How often a word stands there, and the word; never where the number is none.
+/// How often a word stands there, and the word; never if the number is none.
 fn counted(word: &str) -> (u64, &str) {
     match word.split_once('*') {
         Some((times, word)) => (times.parse::<u64>().unwrap_or(0), word),
@@ -28,7 +28,7 @@ fn counted(word: &str) -> (u64, &str) {
     }
 }
 
-/// The bytes of a word of hexadecimal, `None` where it is none.
+/// The bytes of a word of hexadecimal, `None` if it is none.
 pub fn read_word(alloc: Global, names: &Names<'_>, word: &str) -> Result<Option<Part>, AllocError> {
     let (times, name) = counted(word);
     let mut bytes = Vec::new(alloc);

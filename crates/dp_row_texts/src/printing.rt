@@ -56,7 +56,7 @@ pub fn put_text(before: &[u8], text: &[u8], out: &mut Vec<u8>) -> Result<(), All
     }
 }
 
-/// How long the head of a picture of bytes is, its three lines; `None` where it isn't whole.
+/// How long the head of a picture of bytes is, its three lines; `None` if it isn't whole.
 fn head_len(output: &[u8]) -> Option<usize> {
     if !output.starts_with(b"P6\n") {
         return None;

@@ -267,7 +267,7 @@ fn put_bad(at: usize, end: &mut Vec<u8>) -> Result<(), AllocError> {
 }
 
 /// What a server is to leave whose first link has this damage. One worker serves both links in
-/// turn, or each has a worker, where they have pauses: the whole one begins first, and goes on when
+/// turn, or each has a worker, if they have pauses: the whole one begins first, and goes on when
 /// its painter was sent that the other one left.
 pub fn server_answer<'a>(
     alloc: Global,

@@ -16,7 +16,7 @@ pub struct Trial {
     pub due: Answer,
 }
 
-/// The trials of a row in pieces of this length; there are none where it has no table or no link.
+/// The trials of a row in pieces of this length; there are none if it has no table or no link.
 pub fn trials_of(alloc: Global, row: &Row, piece: usize) -> Result<Vec<Trial>, AllocError> {
     let mut trials = Vec::new(alloc);
     let link = row.wires.first().and_then(|links| links.first());

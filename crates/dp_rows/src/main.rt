@@ -27,10 +27,10 @@
 //! of the store after `kept `, and how often its workers passed the gate. A picture of bytes is
 //! printed as its head and its pixels, each with how often it stands there. A backslash ends a text
 //! that has no newline at its end. What a length of pieces gives otherwise than the first one
-//! follows after `differs`. Where there is a table, the row runs again with the first link cut
+//! follows after `differs`. If there is a table, the row runs again with the first link cut
 //! after each byte, with each of its frames replaced, and with each of its reads and writes
 //! failing. Where two wires have a link each, the second link is open before the damaged one begins
-//! and until that is over. `tried` says how many runs there were, and `differs` where one gave
+//! and until that is over. `tried` says how many runs there were, and `differs` if one gave
 //! something else than is due.
 #![tactic(auto)]
 

@@ -90,7 +90,7 @@ fn store_of(alloc: Global, row: &Row, more: Option<Fail>) -> Result<MemKeeper, A
 }
 
 /// What a server leaves: a line for each link and for each row that is kept, how often the gate was
-/// passed, and a line where a pause was given up.
+/// passed, and a line if a pause was given up.
 fn left_by(
     alloc: Global,
     outcome: &Outcome<RowWire, MemKeeper>,
