@@ -2,7 +2,6 @@
 use Rattle.std.proofs.Common.{◌≡◌, ℕ, zero, suc, ◌+◌, ◌-◌, ◌*◌, ◌/◌, ◌%◌, ◌<◌, ◌≤◌, List, [], ◌∷◌}
 use Rattle.std.proofs.Common.{◌++◌, length, get_or, take, drop, ap, sym, ◌∙◌, refl, arith, ⊎_elim}
 use Rattle.std.proofs.Common.{cond, leb, true, false}
-use Rattle.std.specs.List.{sum_by}
 use Rattle.std.specs.Prelude.{Bool}
 use Rattle.std.proofs.lemmas.Bool.{cases_lt}
 use Rattle.std.proofs.lemmas.List.{length-take, take-append-drop, take_more}
@@ -149,5 +148,6 @@ take_part all done next order inside =
     let long : length first ≡ done = omega (arith, length-take done all, inside) in
     let at : next ≡ length first + (next - done) = omega (arith, long, order) in
     ap (λ (n : ℕ). take n all) at
-    ∙ ap (λ (l : List Draw). take (length first + (next - done)) l) (sym (take-append-drop done all))
+    ∙ ap (λ (l : List Draw). take (length first + (next - done)) l)
+    (sym (take-append-drop done all))
     ∙ take-append-add first (drop done all) (next - done)

@@ -1,10 +1,10 @@
 -- Tiles that are painted by jobs.
-use Rattle.std.proofs.Common.{◌≡◌, ℕ, zero, suc, ◌+◌, ◌-◌, ◌*◌, ◌/◌, ◌%◌, ◌<◌, ◌≤◌, List, [], ◌∷◌}
+use Rattle.std.proofs.Common.{◌≡◌, ℕ, suc, ◌+◌, ◌*◌, ◌<◌, ◌≤◌, List, [], ◌∷◌}
 use Rattle.std.proofs.Common.{◌++◌, length, get_or, take, drop, ap, sym, ◌∙◌, refl, arith, ⊎_elim}
 use Rattle.std.proofs.Common.{cond, true, false, ◌&&◌, leb, ltb, eqb, length-append}
 use Rattle.std.specs.Prelude.{All}
 use Rattle.std.proofs.lemmas.Bool.{and_parts, cases_eq, cond-false, cond-true, eq-eqb, eqb-true}
-use Rattle.std.proofs.lemmas.Bool.{false_from_ne_true, le-leb, leb-true, lt-ltb, ltb-true, ne_eqb}
+use Rattle.std.proofs.lemmas.Bool.{false_from_ne_true, le-leb, leb-true, lt-ltb, ltb-true}
 use Rattle.std.proofs.lemmas.List.{append-nil, drop_all, take_all}
 use Rattle.std.proofs.lemmas.List.Elements.{All-head, All-push, All-tail, All-weaker}
 use Rattle.dp_blend.specs.Color.{Channels, clear}
@@ -13,7 +13,7 @@ use Rattle.dp_tile.specs.Areas.{IsPaintedOn, Painted, is_in_cells}
 use Rattle.dp_tile.specs.Tiles.{IsGrid, TileGrid, cell_at, tile_of, with_cell}
 use Rattle.dp_tile.proofs.CellByCell.{cell_beside, cell_elsewhere, cell_same}
 use Rattle.dp_tile.proofs.CellByCell.{place_inside}
-use Rattle.dp_paint.specs.Jobs.{AreMade, AreWritten, IsDone, IsMade, IsRun, TileWork, band_at, is_numbered}
+use Rattle.dp_paint.specs.Jobs.{AreMade, AreOnGrid, IsDone, IsJobFor, HasRun, TileWork, band_at, is_numbered}
 use Rattle.dp_paint.specs.Jobs.{work_at}
 use Rattle.dp_paint.proofs.Waits.{inside_by, inside_facts}
 
@@ -84,16 +84,16 @@ not_here job col row a b other =
 
 -- jobs for cells of lower numbers
 pub work_none : (next : ℕ) (g : TileGrid) (jobs : List TileWork) (col row : ℕ)
-    (pixels : List Channels) → All (IsMade next g) jobs → next ≤ row * 64 + col
+    (pixels : List Channels) → All (IsJobFor next g) jobs → next ≤ row * 64 + col
     → work_at jobs col row pixels ≡ pixels
 unfolding work_at
 work_none next g [] col row pixels each up = refl
 work_none next g (job ∷ jobs) col row pixels each up =
-    let made = All-head (IsMade next g) job jobs each in
+    let made = All-head (IsJobFor next g) job jobs each in
     let before = made.before in
     not_here job col row job.wanted (work_at jobs col row pixels)
     (λ same_col same_row. absurd (omega (arith, before, up, same_col, same_row)))
-    ∙ work_none next g jobs col row pixels (All-tail (IsMade next g) job jobs each) up
+    ∙ work_none next g jobs col row pixels (All-tail (IsJobFor next g) job jobs each) up
 
 -- ---- numbers
 
@@ -130,8 +130,8 @@ module _ (first number col row : ℕ) where
 -- ---- one number more
 
 -- a job stays one
-still_made : (number : ℕ) (g : TileGrid) (job : TileWork) → IsMade number g job
-    → IsMade (number + 1) g job
+still_made : (number : ℕ) (g : TileGrid) (job : TileWork) → IsJobFor number g job
+    → IsJobFor (number + 1) g job
 still_made number g job is =
     let before = is.before in record {
       col = is.col;
@@ -180,7 +180,7 @@ module _ (painted : Painted) (first number : ℕ) (old now : TileGrid) (jobs : L
         cols = is.cols;
         rows = is.rows;
         few = omega (arith, few);
-        each = All-weaker (IsMade number old) (IsMade (number + 1) old) (still_made number old)
+        each = All-weaker (IsJobFor number old) (IsJobFor (number + 1) old) (still_made number old)
             jobs is.each;
         cells = λ col row in_cols in_rows.
             ⊎_elim (λ (same : row * 64 + col ≡ number).
@@ -204,8 +204,8 @@ module _ (painted : Painted) (first number : ℕ) (old now : TileGrid) (jobs : L
         cols = is.cols;
         rows = is.rows;
         few = omega (arith, few, order, length-append jobs (job ∷ []));
-        each = All-push (IsMade (number + 1) old) jobs job
-            (All-weaker (IsMade number old) (IsMade (number + 1) old) (still_made number old)
+        each = All-push (IsJobFor (number + 1) old) jobs job
+            (All-weaker (IsJobFor number old) (IsJobFor (number + 1) old) (still_made number old)
             jobs is.each)
             (record {
               col = in_cols;
@@ -248,7 +248,7 @@ module _ (painted : Painted) (first number : ℕ) (old now : TileGrid) (jobs : L
         cols = is.cols;
         rows = is.rows;
         few = omega (arith, few);
-        each = All-weaker (IsMade number old) (IsMade (number + 1) old) (still_made number old)
+        each = All-weaker (IsJobFor number old) (IsJobFor (number + 1) old) (still_made number old)
             jobs is.each;
         cells = λ col row col_in row_in.
             let test = eqb at_col col && eqb at_row row in
@@ -300,7 +300,7 @@ made_none painted first old now jobs same none =
 
 -- they make the same of a cell
 pub ran_same : (old new : List TileWork) → length new ≡ length old
-    → ((k : ℕ) (d : TileWork) → k < length old → IsRun (get_or old k d) (get_or new k d))
+    → ((k : ℕ) (d : TileWork) → k < length old → HasRun (get_or old k d) (get_or new k d))
     → (col row : ℕ) (pixels : List Channels)
     → work_at new col row pixels ≡ work_at old col row pixels
 unfolding work_at
@@ -317,8 +317,8 @@ ran_same (x ∷ xs) (y ∷ ys) as_many ran col row pixels =
 -- they are done
 pub ran_done : (next : ℕ) (g now : TileGrid) (old new : List TileWork) → now.cols ≡ g.cols
     → now.rows ≡ g.rows → length new ≡ length old
-    → ((k : ℕ) (d : TileWork) → k < length old → IsRun (get_or old k d) (get_or new k d))
-    → All (IsMade next g) old → All (IsDone now) new
+    → ((k : ℕ) (d : TileWork) → k < length old → HasRun (get_or old k d) (get_or new k d))
+    → All (IsJobFor next g) old → All (IsDone now) new
 ran_done next g now old new cols rows as_many ran each = λ k d inside.
     let in_old : k < length old = omega (arith, inside, as_many) in
     let one = ran k d in_old in
@@ -363,8 +363,8 @@ in_band top col row in_cols =
 pub band_done : (painted : Painted) (top : ℕ) (old now new : TileGrid)
     (made from ran : List TileWork) → from ≡ made → IsGrid old
     → AreMade painted (top * 64) (top * 64 + 512) old now made → length ran ≡ length from
-    → ((k : ℕ) (d : TileWork) → k < length from → IsRun (get_or from k d) (get_or ran k d))
-    → AreWritten ran now new → IsPaintedOn (band_at top) painted old new
+    → ((k : ℕ) (d : TileWork) → k < length from → HasRun (get_or from k d) (get_or ran k d))
+    → AreOnGrid ran now new → IsPaintedOn (band_at top) painted old new
 band_done painted top old now new made from ran same grid are as_many each written =
     let now_cols = are.cols in
     let now_rows = are.rows in

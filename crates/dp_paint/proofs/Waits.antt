@@ -3,10 +3,9 @@ use Rattle.std.proofs.Common.{◌≡◌, ℕ, zero, suc, ◌+◌, ◌-◌, ◌*�
 use Rattle.std.proofs.Common.{length, get_or}
 use Rattle.std.proofs.Common.{refl, sym, ◌∙◌, ap, arith, ⊎_elim, ◌&&◌, leb, ltb, cond}
 use Rattle.std.proofs.Common.{true, length-append}
-use Rattle.std.proofs.lemmas.Bool.{cases_Bool, cases_lt, cases_eq, false≢true, and_parts, leb-true}
+use Rattle.std.proofs.lemmas.Bool.{cases_Bool, cases_eq, false≢true, and_parts, leb-true}
 use Rattle.std.proofs.lemmas.Bool.{ltb-true}
 use Rattle.std.proofs.lemmas.Bool.{le-leb, lt-ltb}
-use Rattle.std.proofs.lemmas.List.{get_or_past}
 use Rattle.dp_tile.specs.declared.area.CellArea.{CellArea}
 use Rattle.dp_tile.specs.Areas.{is_in_cells}
 use Rattle.dp_paint.specs.declared.lists.Finish.{Finish}

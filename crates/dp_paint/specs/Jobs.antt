@@ -15,7 +15,7 @@ pub record TileWork : Type 0 where
   pub pixels : List Channels
 
 -- a job was run: its new tile has the pixels that it is to have
-pub record IsRun (old new : TileWork) : Type 0 where
+pub record HasRun (old new : TileWork) : Type 0 where
   pub col : new.col ≡ old.col
   pub row : new.row ≡ old.row
   pub wanted : new.wanted ≡ old.wanted
@@ -35,7 +35,7 @@ tiles_waiting l (suc number) = tiles_waiting l number + waits_on l number
 -- ---- in the words of the code
 
 -- a job for a tile of a grid, of a number below this one, whose new tile is clear
-pub record IsMade (next : ℕ) (g : TileGrid) (job : TileWork) : Type 0 where
+pub record IsJobFor (next : ℕ) (g : TileGrid) (job : TileWork) : Type 0 where
   pub col : job.col < g.cols
   pub row : job.row < g.rows
   pub before : job.row * 64 + job.col < next
@@ -57,7 +57,7 @@ pub record AreMade (painted : Painted) (first next : ℕ) (old now : TileGrid) (
   pub cols : now.cols ≡ old.cols
   pub rows : now.rows ≡ old.rows
   pub few : length jobs ≤ next - first
-  pub each : All (IsMade next old) jobs
+  pub each : All (IsJobFor next old) jobs
   pub cells : (col row : ℕ) → col < old.cols → row < old.rows
       → work_at jobs col row (cell_at now col row)
       ≡ (if is_numbered first next col row
@@ -65,7 +65,7 @@ pub record AreMade (painted : Painted) (first next : ℕ) (old now : TileGrid) (
       else cell_at old col row)
 
 -- the tiles of jobs were put on a grid
-pub record AreWritten (jobs : List TileWork) (old new : TileGrid) : Type 0 where
+pub record AreOnGrid (jobs : List TileWork) (old new : TileGrid) : Type 0 where
   pub cols : new.cols ≡ old.cols
   pub rows : new.rows ≡ old.rows
   pub cells : (col row : ℕ) → col < old.cols → row < old.rows

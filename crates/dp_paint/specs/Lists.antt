@@ -1,5 +1,5 @@
 -- Operations that wait for the tiles of a grid.
-use Rattle.std.specs.Prelude.{◌≡◌, ℕ, zero, suc, ◌==◌, ◌+◌, ◌-◌, ◌*◌, ◌/◌, ◌%◌, ◌<◌, ◌≤◌, pos, ℤ}
+use Rattle.std.specs.Prelude.{◌≡◌, ℕ, ◌==◌, ◌+◌, ◌-◌, ◌*◌, ◌/◌, ◌%◌, ◌<◌, ◌≤◌, pos, ℤ}
 use Rattle.std.specs.Prelude.{nat_le, if◌then◌else◌, List, [], ◌++◌, length, slice_index_or}
 use Rattle.std.specs.Prelude.{slice_get, Some}
 use Rattle.dp_blend.specs.Color.{Channels}
@@ -145,8 +145,3 @@ AddsMore among change col row old new =
 -- 1 if operations wait on the tile of a number, where those of each row have 64 numbers, and else 0
 abbrev pub waits_on : Lists → ℕ → ℕ
 waits_on l number = if length (listed_at l (number % 64) (number / 64)) == 0 then 0 else 1
-
--- on how many of the tiles before the one of a number operations wait
-pub waiting_before : Lists → ℕ → ℕ
-waiting_before l zero = 0
-waiting_before l (suc number) = waiting_before l number + waits_on l number

@@ -6,7 +6,7 @@ ghost use Rattle.dp_blend.specs.Color.{clear};
 ghost use Rattle.dp_tile.specs.Tiles.{cell_at, tile_of, with_cell};
 ghost use Rattle.dp_paint.specs.Lists.{listed_at, waiting_tile, waits_on};
 ghost use Rattle.dp_paint.specs.Jobs.{tiles_waiting};
-ghost use Rattle.dp_paint.specs.Jobs.{AreMade, AreWritten, IsDone};
+ghost use Rattle.dp_paint.specs.Jobs.{AreMade, AreOnGrid, IsDone};
 
 use crate::lists::TileLists;
 use crate::painter::OpsPainter;
@@ -100,11 +100,11 @@ impl<'a> Job for TileJob<'a> {
     ghost use Rattle.std.specs.Prelude.{◌≡◌};
     ghost use Rattle.dp_blend.specs.Color.{clear};
     ghost use Rattle.dp_tile.specs.Tiles.{tile_of};
-    ghost use Rattle.dp_paint.specs.Jobs.{IsRun};
+    ghost use Rattle.dp_paint.specs.Jobs.{HasRun};
 
     ghost ready = { λ job. job.pixels ≡ tile_of clear };
 
-    ghost leaves = { IsRun };
+    ghost leaves = { HasRun };
 
     fn run(&mut self) {
         let TileJob {
@@ -196,7 +196,7 @@ fn make_work<'a, T: Ledger>(
     }
 }
 
-/// The same, if something waits on the tile.
+/// The same, if operations wait on the tile of a number.
 ///
 /// # Errors
 ///
@@ -261,7 +261,7 @@ pub(crate) fn make_jobs<'a, T: Ledger>(
 /// Puts the tiles of jobs that were run on the grid.
 pub(crate) fn write_jobs(work: Work<'_>) -> Result<Grid, AllocError>
     requires { All (IsDone work.grid) work.jobs.items }
-    ensures { IfOk result (AreWritten work.entry.jobs.items work.entry.grid) }
+    ensures { IfOk result (AreOnGrid work.entry.jobs.items work.entry.grid) }
 {
     let Work { mut grid, mut jobs } = work;
     'jobs: while let Some(job) = jobs.pop() {

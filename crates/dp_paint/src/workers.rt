@@ -85,7 +85,8 @@ pub(crate) fn settle_all<R: Threads + Sync, G: Gate, T: Ledger>(
     ensures grid { IsGridOf on.entry.width on.entry.height grid.new }
     ensures first { lists.new.first ≡ 0 }
     ensures counts { AllCount lists.new }
-    ensures same { layer_pixels on.entry.width on.entry.height on.entry.commands.now lists.new grid.new
+    ensures same { layer_pixels on.entry.width on.entry.height on.entry.commands.now lists.new
+        grid.new
         ≡ layer_pixels on.entry.width on.entry.height on.entry.commands.now lists.old grid.old }
     ensures none { OnOk result
         ((col row : ℕ) → col < 64 → row < 64 → listed_at lists.new col row ≡ []) }

@@ -1,5 +1,4 @@
 use Rattle.std.proofs.Common.{◌∙◌, sym}
-use Rattle.dp_pixels.specs.Feet.{foot}
 use Rattle.dp_paint.proofs.FootLemmas.{move_within}
 use Rattle.dp_paint.proofs.feet.move_rects.Goals as goal
 

@@ -1,4 +1,4 @@
-use Rattle.std.proofs.Common.{◌*◌, ◌+◌, ◌%◌, ◌/◌, arith}
+use Rattle.std.proofs.Common.{◌%◌, ◌/◌, arith}
 use Rattle.std.proofs.lemmas.Result.{on_ok_weaker}
 use Rattle.dp_paint.specs.Lists.{waiting_tile}
 use Rattle.dp_paint.proofs.Made.{made_cell, made_job}

@@ -1,6 +1,6 @@
 use Rattle.std.proofs.Common.{◌≡◌, ◌∙◌, ◌+◌, ◌*◌, List, ap, arith, length, subst}
 use Rattle.std.proofs.lemmas.List.Elements.{All-same}
-use Rattle.dp_paint.specs.Jobs.{AreWritten, IsDone, IsMade, TileWork}
+use Rattle.dp_paint.specs.Jobs.{AreOnGrid, IsDone, IsJobFor, TileWork}
 use Rattle.dp_paint.proofs.Made.{band_done, lent_back, ran_done}
 use Rattle.dp_paint.proofs.workers.band_painted.Goals as goal
 
@@ -18,7 +18,7 @@ write_jobs-requires g c =
     All-same (IsDone now) _ ran back
     (ran_done next old now c.deref_mut.result.now ran made.cols made.rows
     c.par_each.ensures.as_many c.par_each.ensures.each_ran
-    (All-same (IsMade next old) c.deref_mut.result.now jobs.items c.deref_mut.ensures.value
+    (All-same (IsJobFor next old) c.deref_mut.result.now jobs.items c.deref_mut.ensures.value
     made.each))
 
 pub returns-clause-painted : goal.returns-clause-painted
@@ -32,5 +32,5 @@ returns-clause-painted g c =
     band_done _ c.args.top c.args.grid.now now c.in_ok-painted.painted jobs.items
     c.deref_mut.result.now ran c.deref_mut.ensures.value c.known.ensures
     c.in_ok-work.ensures.made c.par_each.ensures.as_many c.par_each.ensures.each_ran
-    (subst (λ (l : List TileWork). AreWritten l now c.in_ok-painted.painted) back
+    (subst (λ (l : List TileWork). AreOnGrid l now c.in_ok-painted.painted) back
     c.in_ok-painted.ensures)

@@ -1,4 +1,4 @@
-use Rattle.std.proofs.Common.{ap, arith, length, ◌∙◌, refl, sym}
+use Rattle.std.proofs.Common.{ap, arith, refl}
 use Rattle.std.proofs.lemmas.List.Sums.{sum_by_more}
 use Rattle.dp_pixels.specs.Feet.{reach}
 use Rattle.dp_paint.specs.Lists.{Lists}
@@ -27,9 +27,8 @@ loop-command-preserved c =
       number = omega (arith, inv.number);
       first = filed.first;
       counts = filed.counts;
-      pixels = after_more on.width on.height commands k c.command-item.result _ _ _ c.loop-command-test.true
-          c.command-item.is
-          inv.pixels filed.pixels;
+      pixels = after_more on.width on.height commands k c.command-item.result _ _ _
+          c.loop-command-test.true c.command-item.is inv.pixels filed.pixels;
       few = omega (
         arith,
         inv.few,

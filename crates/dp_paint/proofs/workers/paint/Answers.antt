@@ -1,13 +1,10 @@
-use Rattle.std.proofs.Common.{◌≡◌, ◌∙◌, ◌+◌, ◌-◌, ◌≤◌, ◌++◌, List, ap, sym, arith, subst, take}
-use Rattle.std.proofs.Common.{drop, length}
+use Rattle.std.proofs.Common.{◌+◌, ◌-◌, ap, sym, arith, subst, take}
+use Rattle.std.proofs.Common.{drop}
 use Rattle.std.specs.List.{sum_by}
-use Rattle.std.proofs.lemmas.List.{take_all}
-use Rattle.std.proofs.lemmas.List.Elements.{All-drop, All-take}
 use Rattle.std.proofs.lemmas.List.Sums.{sum_by-append, sum_by-take-le}
-use Rattle.dp_msg_draw.specs.declared.draw.Draw.{Draw}
 use Rattle.dp_pixels.specs.Feet.{reach}
 use Rattle.dp_tile.specs.Tiles.{grid_pixels}
-use Rattle.dp_paint.specs.Painting.{IsGridOf, IsPainting, pixels_after_all}
+use Rattle.dp_paint.specs.Painting.{IsGridOf}
 use Rattle.dp_paint.proofs.Bands.{part_more, take_part}
 use Rattle.dp_paint.proofs.workers.paint.Goals as goal
 

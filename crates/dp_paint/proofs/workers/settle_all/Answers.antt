@@ -1,4 +1,4 @@
-use Rattle.std.proofs.Common.{◌≡◌, ◌∙◌, ◌+◌, ◌*◌, arith, refl}
+use Rattle.std.proofs.Common.{◌∙◌, ◌+◌, ◌*◌, arith, refl}
 use Rattle.dp_paint.specs.declared.lists.Finish.TheVariants.{Clear}
 use Rattle.dp_paint.specs.Jobs.{band_at}
 use Rattle.dp_paint.proofs.Counts.{waiting_to}
