@@ -26,6 +26,18 @@ plus-both a b c =
     let blue : a.blue + b.blue + c.blue ≡ a.blue + (b.blue + c.blue) = omega arith in
     cc
 
+-- the sums of three numbers
+abbrev sums : ℕ → ℕ → ℕ → Sums
+sums red green blue = record { red = red; green = green; blue = blue }
+
+pub plus-none : (s : Sums) → s ≡ plus s (sums_of [])
+plus-none s =
+    let red : s.red ≡ s.red + 0 = omega arith in
+    let green : s.green ≡ s.green + 0 = omega arith in
+    let blue : s.blue ≡ s.blue + 0 = omega arith in
+    ap (λ n. sums n s.green s.blue) red ∙ ap (λ n. sums (s.red + 0) n s.blue) green
+    ∙ ap (λ n. sums (s.red + 0) (s.green + 0) n) blue
+
 below-more : (n : ℕ) → below (n + 1) ≡ below n ++ n ∷ []
 below-more n =
     sym (map-id (below (n + 1))) ∙ map-range_with_len_more (λ k. k) 0 n n (omega arith)

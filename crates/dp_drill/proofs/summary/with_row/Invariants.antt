@@ -7,7 +7,7 @@ use Rattle.dp_drill.proofs.summary.with_row.Given as goal
 -- the pixels to the left are counted
 abbrev pub invariant-loop-x : goal.invariant-loop-x
 invariant-loop-x g l = record {
-  sums : l.sums ≡ plus l.before
+  sums : l.sums ≡ plus l.fn.before
       (sums_of (map (λ x. seen (g.V.BoardView.board l.board) x l.y) (below l.x)));
-  small : (most : ℕ) → AreAtMost most l.before → AreAtMost (most + l.x * 255) l.sums;
+  small : (most : ℕ) → AreAtMost most l.fn.before → AreAtMost (most + l.x * 255) l.sums;
 }
