@@ -10,6 +10,17 @@ use Rattle.dp_snap.specs.Resets.{reset_messages}
 use Rattle.dp_joining.proofs.Moving.{reset_bytes}
 use Rattle.dp_joining.proofs.sending.send_reset.Goals as goal
 
+pub returns-in_err-send-clause-prefix : goal.returns-in_err-send-clause-prefix
+returns-in_err-send-clause-prefix g c =
+    let first = sent_by c.args.user c.args.begin in
+    let parts = flat_map (λ (command : Draw). sent_by c.args.user (msg.Part command))
+    c.args.commands.now in
+    let last = sent_by c.args.user (msg.Control control.ResetEnd) in
+    prefix_is _ _ (first ++ (parts ++ last))
+    (flat_map (sent_by c.args.user) (reset_messages c.args.begin c.args.commands.now))
+    (reset_bytes c.args.user c.args.begin c.args.commands.now)
+    (grows_within _ _ first (parts ++ last) c.in_err-send.ensures.prefix)
+
 pub returns-in_err-send_parts-clause-prefix : goal.returns-in_err-send_parts-clause-prefix
 returns-in_err-send_parts-clause-prefix g c =
     let first = sent_by c.args.user c.args.begin in

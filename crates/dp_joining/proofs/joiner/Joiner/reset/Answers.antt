@@ -1,6 +1,7 @@
-use Rattle.std.proofs.Common.{◌≡◌, [], ◌∙◌, ◌+◌, ap, refl, sym, length}
+use Rattle.std.proofs.Common.{◌≡◌, List, [], ◌∙◌, ◌+◌, ap, refl, sym, length}
 use Rattle.std.proofs.lemmas.Result.{err_from_is_err_and}
 use Rattle.dp_client.specs.Client.{confirmed}
+use Rattle.dp_messages.specs.declared.message.Entry.{Entry}
 use Rattle.dp_snap.specs.Snapshot.{snapshot}
 use Rattle.dp_joining.specs.Joining.{Joining, reset_by}
 use Rattle.dp_showing.specs.Resets.{client_reset}
@@ -37,7 +38,7 @@ returns-in_err-send_reset-clause-err g c = λ draws tiles.
     let begin = c.reset_begin-begin.result in
     let begins : begin ≡ reset_begin c.args.keeps (length old.client.taken) =
     c.reset_begin-begin.ensures
-    ∙ ap (reset_begin c.args.keeps) (c.len.ensures ∙ ap length c.taken.ensures) in
+    ∙ ap (λ (es : List Entry). reset_begin c.args.keeps (length es)) c.taken.ensures in
     let is : commands ≡ snapshot (confirmed old.client) =
     c.as_slice-commands.ensures ∙ c.in_ok-commands.ensures.snapshot
     ∙ ap snapshot c.confirmed.ensures in
@@ -61,7 +62,7 @@ returns-clause-ok g c = λ draws tiles.
     let begin = c.reset_begin-begin.result in
     let begins : begin ≡ reset_begin c.args.keeps (length old.client.taken) =
     c.reset_begin-begin.ensures
-    ∙ ap (reset_begin c.args.keeps) (c.len.ensures ∙ ap length c.taken.ensures) in
+    ∙ ap (λ (es : List Entry). reset_begin c.args.keeps (length es)) c.taken.ensures in
     let is : commands ≡ snapshot (confirmed old.client) =
     c.as_slice-commands.ensures ∙ c.in_ok-commands.ensures.snapshot
     ∙ ap snapshot c.confirmed.ensures in
@@ -86,7 +87,7 @@ returns-clause-err g c = λ draws tiles.
     let begin = c.reset_begin-begin.result in
     let begins : begin ≡ reset_begin c.args.keeps (length old.client.taken) =
     c.reset_begin-begin.ensures
-    ∙ ap (reset_begin c.args.keeps) (c.len.ensures ∙ ap length c.taken.ensures) in
+    ∙ ap (λ (es : List Entry). reset_begin c.args.keeps (length es)) c.taken.ensures in
     let is : commands ≡ snapshot (confirmed old.client) =
     c.as_slice-commands.ensures ∙ c.in_ok-commands.ensures.snapshot
     ∙ ap snapshot c.confirmed.ensures in
