@@ -14,6 +14,19 @@ messages-init c = record {
       (heard-nothing left unread start entries c.args.conn c.args.link.now given);
 }
 
+pub messages-preserved : goal.messages-preserved
+messages-preserved c =
+    let was = c.messages.invariant in record {
+      limit = c.hear_one.ensures.limit;
+      held = c.holds_frame.ensures.0 c.if-not-holds_frame.false;
+      at = omega (arith, was.at, c.in-Ok-false.ensures.further);
+      hears = λ left unread start entries given.
+          let q = was.hears left unread start entries given in
+          heard-one left unread start entries c.args.conn c.messages.says.items
+          c.hear_one.new.says.items false c.messages.link c.hear_one.new.link q
+          (c.in-Ok-false.ensures.more left unread start _ q.given);
+    }
+
 pub returns-in-Ok-true-clause-more : goal.returns-in-Ok-true-clause-more
 returns-in-Ok-true-clause-more c = λ left unread start entries given.
     let q = c.messages.invariant.hears left unread start entries given in
