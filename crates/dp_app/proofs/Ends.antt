@@ -59,7 +59,7 @@ is-whole (Truncated n) left whole is = whole
 is-whole _ left whole is = absurd (grind (arith, is))
 
 module _ {A W R T : Type 0} (see : Wires W R T) (words : List (String A)) (e : Effects W) where
-  -- what holds where nothing was done, and after a run of each kind, holds
+  -- what holds if nothing was done, and after a run of each kind, holds
   module _ {P : Type 0} (nothing : NothingIsDone e → P)
       (local : AskForLocal words → StaysLocal e → P)
       (joins : HasLink words e.old → KeepsNothing e.kept → P)
@@ -153,7 +153,7 @@ module _ {A W R T : Type 0} (see : Wires W R T) (words : List (String A)) (e : E
       no-link NoWords (inl h) says command asks none = inr says
       no-link _ (inl h) says command asks none = absurd h.0
 
-      -- where the wires for it are there, it was run, or memory ran out before that
+      -- if the wires for it are there, it was run, or memory ran out before that
       asked : (command : CommandLine) → Asks words command → (ending : Ending)
           → EndsWords see words e ending → ¬ LacksWires command e.old
           → KindLeaves see command e ending ⊎ ((ending ≡ NoWords) × NothingIsDone e)

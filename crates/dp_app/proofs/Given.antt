@@ -1,4 +1,4 @@
--- What the words, an input and a link are due is one answer, and it is given where nothing failed.
+-- What the words, an input and a link are due is one answer, and it is given if nothing failed.
 use Rattle.std.proofs.Common.{◌≡◌, ◌≢◌, ℕ, List, [], ◌∷◌, refl, sym, ap, ◌∙◌, subst, inl, inr}
 use Rattle.std.specs.Prelude.{Option, Some, None, IfSome, map, string_bytes}
 use Rattle.std.specs.declared.string.String.{String}
@@ -108,7 +108,7 @@ module _ {A W R T : Type 0} (see : Wires W R T) (words : List (String A)) (e : E
       let x : [] ≡ gets.wire ∷ gets.others = sym none ∙ gets.first in absurd cc
   due-link (Listen addr workers conns service) bytes link none gets = refl
 
-  -- where nothing failed, and memory sufficed
+  -- if nothing failed, and memory sufficed
   module _ (runs : AreRuns) (served : ¬ HasWires words e.old)
       (read : ¬ Rose e.streams.read e.streams.read_now)
       (written : ¬ Rose e.streams.written e.streams.written_now) (memory : status ≢ 7)
@@ -188,7 +188,7 @@ module _ {A W R T : Type 0} (see : Wires W R T) (words : List (String A)) (e : E
     ending-given ending (inr (Listen addr workers conns service, asks, h)) code line =
         absurd (served (has-wires words e.old addr workers conns service asks h.0))
 
-  -- where nothing failed and memory sufficed, and the bytes are known
+  -- if nothing failed and memory sufficed, and the bytes are known
   abbrev pub Fair : (List ℕ → Option (List ℕ) → Type 0) → Type 0
   Fair P =
       ¬ HasWires words e.old → ¬ Rose e.streams.read e.streams.read_now

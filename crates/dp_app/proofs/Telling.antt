@@ -28,7 +28,7 @@ use Rattle.dp_commands.specs.Servers.{server_end}
 use Rattle.dp_app.proofs.ByKind.{AreRuns, Matches, StoreLaw, dial-failed, has-wire, has-wires}
 use Rattle.dp_app.proofs.ByKind.{join-tells, served-failed, store-broke}
 
--- which counts of the streams rise where the program ends so
+-- which counts of the streams rise if the program ends so
 abbrev pub Counted : Streams → Ending → Type 0
 Counted s (Run end) = Matches s end
 Counted s _ = (s.read_now ≡ s.read) × (s.written_now ≡ s.written)
@@ -176,7 +176,7 @@ module _ {A W R T : Type 0} (see : Wires W R T) (words : List (String A)) (e : E
       (λ is. absurd (omega (arith, is))) (λ is. absurd (omega (arith, is)))
       (λ is. absurd (omega (arith, is)))
 
-  -- where diag failed, the status is that of a write fault
+  -- if diag failed, the status is that of a write fault
   means-by : (dold dnew : Option (List ℕ)) (before now status : ℕ) (ending : Ending)
       → Means ending → Said dold dnew before now status ending → ByStatus status
   means-by dold dnew before now status ending h (inl says) =

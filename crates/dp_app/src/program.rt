@@ -69,7 +69,7 @@ pub struct Outcome<W, K> {
     pub reports: Reports,
 }
 
-/// The program: its words after its name, its input, its output, where it says why it ended, and
+/// The program: its words after its name, its input, its output, if it says why it ended, and
 /// the wires on which it may dial or that hand out the links of a server (`wanted` of dp_words says
 /// which it needs). A server resumes the session of the keeper's rows, and keeps its events there.
 /// The gate is passed by the workers of a server, outside the session's turn. The work on its
@@ -97,7 +97,7 @@ pub fn drawpile<
     draws: &mut Steps<D>,
     tiles: &mut Steps<T>,
 ) -> Outcome<W, K>
-    // Words that are no command are refused, and so is a command that needs links where the wires
+    // Words that are no command are refused, and so is a command that needs links if the wires
     // for them aren't there. Reading the words can run out of memory.
     ensures other_words { ¬ IsCommand words.now
         → SaysUsage (E.held diag.old) (E.held diag.new) (E.faults diag.old) (E.faults diag.new)
@@ -180,7 +180,7 @@ pub fn drawpile<
         → (bytes : List ℕ) (link : Option (List ℕ))
         → ¬ ((answer : Answer) → ¬ IsDue words.now bytes link answer) }
 
-    // Where nothing failed and memory sufficed, an answer is given that the words, the input's
+    // If nothing failed and memory sufficed, an answer is given that the words, the input's
     // bytes and those of the link of `join` are due, and they are due no other. (What `serve` does
     // depends on which worker comes first, too: `serves` says it.)
     ensures complete { ¬ HasWires words.now wires.items
@@ -207,7 +207,7 @@ pub fn drawpile<
         (O.held output.old) (O.held output.new) (E.held diag.old) (E.held diag.new)) }
 
     // These follow from the clauses above, or from their proofs: what each status says, and what
-    // stays where a command doesn't need it.
+    // stays if a command doesn't need it.
     ensures usage { result.status ≡ 1 → ¬ IsCommand words.now }
     ensures lacks { result.status ≡ 13 → AskAndLack words.now wires.items }
     ensures link_fault { result.status ≡ 5
@@ -238,7 +238,7 @@ pub fn drawpile<
         report conn result.journal result.shut }
 
     // Whatever happens, the keeper that comes back holds the rows of the events that were kept, and
-    // after a put has failed perhaps that of one event more. Where no session was resumed, nothing
+    // after a put has failed perhaps that of one event more. If no session was resumed, nothing
     // was kept, and its rows stay.
     ensures rows_kept { HoldsKept
         (stores K.held K.put_faults K.read_faults keeper result.keeper)

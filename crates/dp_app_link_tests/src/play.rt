@@ -86,8 +86,8 @@ fn gives_up<R: Threads + Wait + Sync + Abort>(rt: &R, alloc: Global, words: &str
     gate.gave_up.load(Ordering::SeqCst) == 1
 }
 
-/// Two tiles are drawn at the same time if there are two workers or more, and one after the other if
-/// there is one.
+/// Two tiles are drawn at the same time if there are two workers or more, and one after the other
+/// if there is one.
 #[test]
 fn tiles_at_the_same_time(rt: HostRuntime) {
     let alloc = rt.alloc();

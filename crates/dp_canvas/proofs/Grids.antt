@@ -39,7 +39,7 @@ part_of_pixels w h g x y n within inside =
     (λ i few. sym (pixel_at-canvas_of w h (grid_pixel g) (x + i) y (omega (arith, within, few))
     inside))
 
--- where two things hold of a success, a third one does that follows from them
+-- if two things hold of a success, a third one does that follows from them
 pub on_ok_both : {T E : Type 0} (r : Result T E) (P Q R : Type 0) → (P → Q → R) → OnOk r P
     → OnOk r Q → OnOk r R
 on_ok_both (Ok x) P Q R f p q = f p q

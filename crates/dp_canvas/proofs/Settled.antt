@@ -5,7 +5,7 @@ use Rattle.dp_layers.specs.Rows.{Row, content_of, with_content}
 use Rattle.dp_plain.specs.Board.{Board, IsBoard}
 use Rattle.dp_plain.proofs.Rows.{filled_back}
 
--- the board is as it was, where what the layer held comes back
+-- the board is as it was, if what the layer held comes back
 pub put_back : (board out back : Board) (id : ℕ) (old clear new : List Channels) → IsBoard board
     → content_of board.rows id ≡ Some old
     → out ≡ record board { rows = with_content board.rows id clear }

@@ -24,7 +24,7 @@ shown_tile width height g col row color pixels some none =
     shows_grid width height g col row color pixels
     (is_cell color pixels (cell_at g col row) some none)
 
--- and so does its colour, where it is known
+-- and so does its colour, if it is known
 pub shown_color : (width height : ℕ) (g : TileGrid) (col row : ℕ) (color : Option Channels)
     → IsOfColor color (cell_at g col row)
     → IfSome color (λ p.

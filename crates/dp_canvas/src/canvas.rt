@@ -54,7 +54,7 @@ impl Canvas {
     }
 
     /// The grid whose pixels within the canvas are those of the paint layer of the id, or `None`
-    /// where no paint layer has the id.
+    /// if no paint layer has the id.
     pub fn grid(&self, id: u16) -> Option<&Grid>
         ensures pixels { option_map (grid_pixels self.now.width self.now.height)
             (option_copied result) ≡ content_of self.now.rows id }

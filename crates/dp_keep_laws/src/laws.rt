@@ -67,7 +67,8 @@ pub fn kept_entries_show_the_same()
     ensures openings { (epoch : ℕ) (history more : List Entry) (present : List ℕ)
         (commands : List Command) (place : ℕ) → MayBeCut place history more
         → draw_all empty_board commands ≡ replay (take place history)
-        → replay (opening epoch history present commands (kept_entries (Some place) history) ++ more)
+        → replay (opening epoch history present commands
+        (kept_entries (Some place) history) ++ more)
         ≡ replay (history ++ more) }
 {
     others_do_not_count::<Draw>();

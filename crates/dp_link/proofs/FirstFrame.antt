@@ -136,7 +136,7 @@ all-left h = by_frames h.frames h.stand h.whole
     by_frames [] stand whole = whole
     by_frames (f ∷ frames) stand whole = absurd stand
 
--- where all bytes count
+-- if all bytes count
 none-read : (read rest : List ℕ) → HoldsNoFrame rest → count_from fresh read ≤ stream_limit
     → counted_from stream_limit fresh read ≡ rest → HoldsNoFrame read
 none-read read rest none few all =

@@ -4,4 +4,3 @@ pub mod PageLemmas
 pub mod SeenLemmas
 pub mod SendLemmas
 pub mod Steps
-pub mod Turns

@@ -101,7 +101,7 @@ GreetsBy (Err greet.WriteFault) read stream acts held taken =
     (name rest : List ℕ) × BeginsWithHello read name rest
     × AnswersBy (Err greet.WriteFault) name acts held taken
 
--- what greeting did: it read these bytes where the link's are known, and acted these acts
+-- what greeting did: it read these bytes if the link's are known, and acted these acts
 pub record Greets (v w : SeatView) (left unread : Option (List ℕ)) (held taken : Option (List ℕ))
     (stream : Stream) (result : Result Greeting GreetEnd) : Type 0 where
   pub read : List ℕ
@@ -110,8 +110,8 @@ pub record Greets (v w : SeatView) (left unread : Option (List ℕ)) (held taken
   pub goes : Continues v acts w
   pub by : GreetsBy result read stream acts held taken
 
--- The counts of faults of the link's source and of its sink: ReadFault comes only where the first
--- one rose, and WriteFault only where the second did. Else both stay.
+-- The counts of faults of the link's source and of its sink: ReadFault comes only if the first
+-- one rose, and WriteFault only if the second did. Else both stay.
 abbrev pub FaultMatchesHello : {T : Type 0} → Result T GreetEnd → ℕ → ℕ → ℕ → ℕ → Type 0
 FaultMatchesHello (Ok value) read_old read write_old write = (read ≡ read_old) × (write ≡ write_old)
 FaultMatchesHello (Err greet.ReadFault) read_old read write_old write =
@@ -158,7 +158,7 @@ pub record ReadsName (left unread : Option (List ℕ)) (stream : Stream)
   pub read_is : Consumes left unread read
   pub by : NamesBy result read stream
 
--- writing the Welcome: where it failed the connection was closed, and that came of the Close
+-- writing the Welcome: if it failed the connection was closed, and that came of the Close
 abbrev pub WelcomesBy : Result Unit ReplyOrMemory → Greeting → List LogEntry → Option (List ℕ)
     → Option (List ℕ) → Type 0
 WelcomesBy (Ok done) greeting acts held taken =

@@ -4,5 +4,4 @@ pub mod Bytes
 pub mod Hello
 pub mod Reading
 pub mod Saying
-pub mod Hearing
 pub mod Sending

@@ -15,7 +15,7 @@ use Rattle.dp_epochs.specs.declared.event.Reply.{Reply}
 use Rattle.dp_epochs.specs.declared.event.Reply.TheVariants as reply
 use Rattle.dp_link.specs.declared.ends.UpEnd.{UpEnd}
 use Rattle.dp_link.specs.declared.ends.UpEnd.TheVariants as up
-use Rattle.dp_link.specs.Acts.{SeatView, IsAct}
+use Rattle.dp_link.specs.Acts.{SeatView, IsAct, ActsOnce}
 use Rattle.dp_session_laws.specs.Logs.{ReplyOrMemory, LogEntry}
 use Rattle.dp_link.specs.Bytes.{BeginsWithNoMessage}
 use Rattle.dp_messages.specs.declared.message.Entry.{Entry}
@@ -107,8 +107,8 @@ counted stream read = take (stream_limit - stream.at) (link_bytes stream read)
 abbrev pub given_count : Stream → List ℕ → ℕ
 given_count stream read = stream.at + length (link_bytes stream read)
 
--- What is after the messages that were said, by the end: no whole frame, where all bytes count or
--- where others were read; or a frame that spells no message and begins at that byte of the link.
+-- What is after the messages that were said, by the end: no whole frame, if all bytes count or
+-- if others were read; or a frame that spells no message and begins at that byte of the link.
 abbrev pub RestBy : UpEnd → Stream → List ℕ → List ℕ → Type 0
 RestBy up.End stream read rest = HoldsNoFrame rest × (given_count stream read ≤ stream_limit)
 RestBy up.ReadFault stream read rest = HoldsNoFrame rest × (given_count stream read ≤ stream_limit)
@@ -122,7 +122,7 @@ RestBy (up.NotGreeted end) stream read rest = ⊥
 
 -- ---- the whole
 
--- What saying the messages of a link did: it read these bytes where the link's are known, and these
+-- What saying the messages of a link did: it read these bytes if the link's are known, and these
 -- acts are Says of the first messages, and then a Close, of which that came.
 pub record AreSays (left unread : Option (List ℕ)) (stream : Stream) (conn : ℕ) (end : UpEnd)
     (outcome : ReplyOrMemory) (acts : List LogEntry) : Type 0 where
@@ -145,7 +145,7 @@ pub record SaysAll (v w : SeatView) (left unread : Option (List ℕ)) (stream : 
   pub goes : Continues v acts w
   pub are : AreSays left unread stream conn end outcome acts
 
--- the count of faults of the link's source: ReadFault comes only where it rose, and else it stays
+-- the count of faults of the link's source: ReadFault comes only if it rose, and else it stays
 abbrev pub FaultMatchesUp : UpEnd → ℕ → ℕ → Type 0
 FaultMatchesUp up.ReadFault before now = Rose before now
 FaultMatchesUp up.Left before now = now ≡ before
@@ -157,6 +157,21 @@ FaultMatchesUp (up.NotGreeted end) before now = now ≡ before
 FaultMatchesUp up.Memory before now = now ≡ before
 
 -- ---- parts of it
+
+-- how a Say of which that came ends a link, by whether it was a Disconnect
+abbrev pub EndsBy : Result Unit UpEnd → ReplyOrMemory → Bool → Type 0
+EndsBy (Ok done) outcome leaves = MayGoOn outcome × (leaves ≡ false)
+EndsBy (Err up.Left) outcome leaves = MayGoOn outcome × (leaves ≡ true)
+EndsBy (Err (up.Refused answer)) outcome leaves = (outcome ≡ Ok answer) × (stops answer ≡ true)
+EndsBy (Err up.Memory) outcome leaves = IsErr outcome
+EndsBy (Err other) outcome leaves = ⊥
+
+-- a message was said, and that is how it ends the link, if it does
+pub record SaysOne (v w : SeatView) (conn : ℕ) (m : Msg) (result : Result Unit UpEnd)
+    : Type 0 where
+  pub outcome : ReplyOrMemory
+  pub acts : ActsOnce v (Say conn m) outcome w
+  pub ends : EndsBy result outcome (is_disconnect m)
 
 -- the messages of entries
 abbrev pub messages_of : List Entry → List Msg

@@ -18,11 +18,11 @@ use Rattle.dp_link.specs.declared.pages.Asked.{Asked}
 use Rattle.dp_link.specs.declared.pages.Cursor.{Cursor}
 use Rattle.dp_link.specs.Acts.{SeatView}
 
--- the session that what a seat has seen leaves, where the hall began with this one
+-- the session that what a seat has seen leaves, if the hall began with this one
 abbrev pub session_of : Past → SeatView → Past
 session_of start view = left_by start view.seen
 
--- By the end, the peer took these bytes: all of them where nothing more is to come, and else the
+-- By the end, the peer took these bytes: all of them if nothing more is to come, and else the
 -- first of them.
 abbrev pub TookBy : DownEnd → Option (List ℕ) → Option (List ℕ) → List ℕ → Type 0
 TookBy down.Gone held taken bytes = Appends held taken bytes
@@ -30,7 +30,7 @@ TookBy down.WriteFault held taken bytes = GrowsByPrefix held taken bytes
 TookBy down.Memory held taken bytes = GrowsByPrefix held taken bytes
 TookBy down.NotGreeted held taken bytes = ⊥
 
--- The peer took the frames of a feed of the connection, or the first of them. Where nothing more is
+-- The peer took the frames of a feed of the connection, or the first of them. If nothing more is
 -- to come the feed has ended.
 pub record Sends (past : Past) (conn : ℕ) (held taken : Option (List ℕ)) (end : DownEnd)
     : Type 0 where
@@ -40,7 +40,7 @@ pub record Sends (past : Past) (conn : ℕ) (held taken : Option (List ℕ)) (en
   pub took : TookBy end held taken (frames_of (feed_entries (earlier ++ last ∷ [])))
   pub gone : end ≡ down.Gone → IsGone past conn last
 
--- the count of faults of the link's sink: WriteFault comes only where it rose, and else it stays
+-- the count of faults of the link's sink: WriteFault comes only if it rose, and else it stays
 abbrev pub FaultMatchesDown : DownEnd → ℕ → ℕ → Type 0
 FaultMatchesDown down.WriteFault before now = Rose before now
 FaultMatchesDown down.Gone before now = now ≡ before
@@ -79,7 +79,7 @@ WritesPage (Err down.Memory) held taken epoch at list cursor =
 WritesPage (Err down.Gone) held taken epoch at list cursor = ⊥
 WritesPage (Err down.NotGreeted) held taken epoch at list cursor = ⊥
 
--- the same count where a page was written, or was not
+-- the same count if a page was written, or was not
 abbrev pub FaultMatchesPage : {T : Type 0} → Result T DownEnd → ℕ → ℕ → Type 0
 FaultMatchesPage (Ok more) before now = now ≡ before
 FaultMatchesPage (Err end) before now = FaultMatchesDown end before now

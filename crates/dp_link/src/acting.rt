@@ -32,3 +32,24 @@ pub(crate) fn act_once<W: Wait, K: Keeper, G: Gate>(
     gate.pass(who, n);
     outcome
 }
+
+/// The same, but it wakes nobody.
+pub(crate) fn act_silently<W: Wait, K: Keeper, G: Gate>(
+    rt: &W,
+    hall: &Hall<Session<K>>,
+    seat: &mut Seat<Session<K>>,
+    event: &Event,
+    who: u32,
+    n: u64,
+    gate: &G,
+) -> Result<Reply, AllocError>
+    requires { IsOf hall.now seat.old }
+    ensures of { IsOf hall.now seat.new }
+    ensures acts { ActsOnce seat.old.view event.now result seat.new.view }
+    ensures step { (old new : Past) × Step old event.now result new }
+{
+    calls_add_up::<Event, Result<Reply, AllocError>, Session<K>>();
+    let outcome = hall.act_silently(rt, seat, event);
+    gate.pass(who, n);
+    outcome
+}

@@ -33,7 +33,7 @@ use std::time::Duration;
 const PAUSE_MILLIS: u64 = 2;
 
 /// Writes the entries that are to come for a connection, each as one frame, from the first one of
-/// the epoch in which it joined on. It waits for more where there are none, and goes on until
+/// the epoch in which it joined on. It waits for more if there are none, and goes on until
 /// nothing more is to come.
 pub fn pump_down<W: Wait, K: Keeper, S: Sink>(
     rt: &W,

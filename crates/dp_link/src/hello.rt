@@ -29,7 +29,7 @@ use std::alloc::{AllocError, Global};
 use std::sync::Wait;
 
 /// Reads the Hello of a link, acts an Open by its name, and answers with a Welcome, or with a
-/// Disconnect where the session refuses. It reads pieces of at most 4096 bytes. What was read after
+/// Disconnect if the session refuses. It reads pieces of at most 4096 bytes. What was read after
 /// the Hello is held.
 ///
 /// # Errors
@@ -37,7 +37,7 @@ use std::sync::Wait;
 /// The link is done with then. `ReadFault`, `End` and `BadMessage` come before any act, and nothing
 /// is written. `Refused` carries the answer to the Open. After `WriteFault` a painter who had
 /// joined has left again, and a prefix of the answer was written. `Memory` comes before the Open,
-/// or where the Open was refused for it, and nothing is written.
+/// or if the Open was refused for it, and nothing is written.
 pub fn greet<W: Wait, K: Keeper, R: Source, S: Sink, G: Gate>(
     rt: &W,
     alloc: Global,

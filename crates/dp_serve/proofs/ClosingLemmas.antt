@@ -117,7 +117,7 @@ some-open : (found : Option Connection) → is_some found ≡ true
 some-open None h = cc
 some-open (Some c) h = (c, refl)
 
--- where one connection has become another, those above it that are open stay
+-- if one connection has become another, those above it that are open stay
 set-above : (cs : List Connection) (conn : ℕ) (d : Connection) → 0 < conn
     → open_above conn (slice_set cs (conn - 1) d) ≡ open_above conn cs
 set-above cs conn d above =
@@ -240,7 +240,7 @@ pub with-flags : (rest : Left) (a b c d : Bool) → a ≡ c → b ≡ d
 with-flags rest a b c d x y =
     ap₂ (λ (p q : Bool). record rest { memory = p; store = q }) x y
 
--- a flag that is raised, and one that is raised where the other is
+-- a flag that is raised, and one that is raised if the other is
 pub raised : (a b r : Bool) → a ≡ true → r ≡ a → r ≡ a || b
 raised a b r up same = same ∙ up ∙ ap (λ x. x || b) (sym up)
 

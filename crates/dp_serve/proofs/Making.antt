@@ -25,7 +25,7 @@ pub record MadeSoFar {W : Type 0} (hall : HallValue Past) (v w : SeatView) (wire
 -- ---- running
 
 module _ {W R T : Type 0} (see : Seen W R T) (hall : HallValue Past) (most : ℕ) where
-  -- each job ran, where the job at each place did
+  -- each job ran, if the job at each place did
   pub ran-each : (olds news : List (JobValue W)) → length news ≡ length olds
       → ((i : ℕ) (d : JobValue W) → i < length olds
       → RanJob see hall most (get_or olds i d) (get_or news i d))

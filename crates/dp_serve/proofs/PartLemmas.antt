@@ -1,4 +1,4 @@
--- The part of a worker: what its job adds where its seat is joined, and what stays of it.
+-- The part of a worker: what its job adds if its seat is joined, and what stays of it.
 use Rattle.std.proofs.Common.{◌≡◌, ◌⊎◌, ℕ, ◌≤◌, Bool, true, false, List, [], ◌∷◌, ◌++◌, length, map}
 use Rattle.std.proofs.Common.{Option, None, Some, option_to_list, refl, sym, ap, subst, ◌∙◌, ⊎_elim}
 use Rattle.std.proofs.Common.{inl, inr, append-nil, arith}
@@ -59,7 +59,7 @@ module _ {W R T : Type 0} (see : Seen W R T) (laws : FeedLaws) (start : Past)
             (see.link run.back) shut legal begins r.link;
       }) h
 
-  -- what fits stays so, where the flags stay
+  -- what fits stays so, if the flags stay
   pub fits-later : (most : ℕ) (memory wire more fault : Bool) (who : ℕ) (part : Part W R T)
       → Stays memory more → Stays wire fault
       → Fits see (left_by start log) most memory wire who part

@@ -32,7 +32,7 @@ left_out : (b : Bool) (act : LogEntry) (log : List LogEntry) → (if b then act 
 left_out true act log e = absurd (cc (e))
 left_out false act log e = (refl, e)
 
--- where a log has no entries by a name, none of it is by that name
+-- if a log has no entries by a name, none of it is by that name
 by_nobody : (name : List ℕ) (log : List LogEntry) (act : LogEntry) → entries_by name log ≡ []
     → IsIn act log → act.by ≡ name → ⊥
 by_nobody name [] act none h by = h
@@ -119,7 +119,7 @@ module _ {W R T : Type 0} (see : Seen W R T) (start : Past) (most : ℕ) (laws :
               let h = g.wire (sym wire ∙ e) in (h.0, h.1, (h.2.0, e));
         }
 
--- ---- where nothing ran
+-- ---- if nothing ran
 
 module _ {W R T : Type 0} (see : Seen W R T) (start : Past) (most : ℕ) where
   -- the part of a worker that didn't begin

@@ -16,7 +16,7 @@ use Rattle.dp_worker.specs.declared.report.LinkReport.{LinkReport}
 use Rattle.dp_worker.specs.Links.{LinkState, has_store_fault}
 use Rattle.dp_worker.specs.Works.{LinkRun, IsRun, HandsOver, NoneToCome, acts_of, run_ran_out}
 
--- what contracts see of a wire: its links, where they are known, how often it has failed, and the
+-- what contracts see of a wire: its links, if they are known, how often it has failed, and the
 -- state of each link
 pub record Seen (W R T : Type 0) : Type 0 where
   pub links : W → Option (Links R T)
@@ -24,7 +24,7 @@ pub record Seen (W R T : Type 0) : Type 0 where
   pub link : R × T → LinkState
 
 -- A worker's part: its wire as it was and as it is, the name of its seat, and the links that it
--- served. It has no seat where none could be made for it.
+-- served. It has no seat if none could be made for it.
 pub record Part (W R T : Type 0) : Type 0 where
   pub wire : W
   pub now : W

@@ -22,7 +22,7 @@ pub(crate) struct Job<W, K: Keeper> {
     /// Its number.
     pub(crate) who: u32,
     pub(crate) wire: W,
-    /// Its seat. There is none where no seat could be split off for it: then it doesn't work.
+    /// Its seat. There is none if no seat could be split off for it: then it doesn't work.
     pub(crate) seat: Option<Seat<Session<K>>>,
     pub(crate) worked: Worked,
 }
@@ -87,7 +87,7 @@ fn make_job<W, K: Keeper>(
     }
 }
 
-/// Runs the workers of the jobs, all at the same time where threads can be made.
+/// Runs the workers of the jobs, all at the same time if threads can be made.
 pub(crate) fn run_jobs<W: Wire + Send, K: Keeper + Send, G: Gate, R: Threads + Wait + Sync>(
     rt: &R,
     alloc: Global,

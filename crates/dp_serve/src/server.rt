@@ -49,10 +49,10 @@ pub struct Served<W, K: Keeper> {
 
 /// Serves a session. The connections that are open are closed first, by rising number, up to the
 /// first Close that is refused. Then there is a worker for each wire, all at the same time, each
-/// until it has served so many links (2^32 - 1 where no number is given), none is to come, or its
+/// until it has served so many links (2^32 - 1 if no number is given), none is to come, or its
 /// wire fails. It waits for all of them. Each link that a wire handed out is handed back.
 ///
-/// Where memory runs out, a worker ends or doesn't begin, and `memory` says so.
+/// If memory runs out, a worker ends or doesn't begin, and `memory` says so.
 pub fn serve<W: Wire + Send, K: Keeper + Send, G: Gate, R: Threads + Wait + Sync>(
     rt: &R,
     alloc: Global,
@@ -198,7 +198,7 @@ fn run_all<W: Wire + Send, K: Keeper + Send, G: Gate, R: Threads + Wait + Sync>(
     flags
 }
 
-/// What is left where memory ran out before a worker began.
+/// What is left if memory ran out before a worker began.
 fn serve_nothing<W: Wire, K: Keeper>(
     alloc: Global,
     session: Session<K>,

@@ -52,7 +52,7 @@ module _ {E O M : Type 0} where
       by_name true rest = inr rest
       by_name false rest = rest
 
-  -- where all that passes is by the name, it is what passes of the entries by it
+  -- if all that passes is by the name, it is what passes of the entries by it
   pub filter-entries : (p : Entry E O M → Bool) (name : List ℕ) (log : List (Entry E O M))
       → ((e : Entry E O M) → IsIn e log → p e ≡ true → e.by ≡ name)
       → filter p log ≡ filter p (entries_by name log)
@@ -79,7 +79,7 @@ module _ {E O M : Type 0} where
           (ap (λ n. is_same_name n name) (only x (inl refl) pass) ∙ same_self name) is)
       by_test false false pass is rest = rest
 
-  -- where all that a log gives is distinct, so is what the entries by a name give
+  -- if all that a log gives is distinct, so is what the entries by a name give
   pub distinct-entries : {A : Type 0} (f : Entry E O M → List A) (name : List ℕ)
       (log : List (Entry E O M)) → AreDistinct (flat_map f log)
       → AreDistinct (flat_map f (entries_by name log))
@@ -121,7 +121,7 @@ module _ (conn : ℕ) (act : LogEntry) (log : List LogEntry) where
   abbrev of_acts : List Event
   of_acts = kept_events (acts_about conn log)
 
-  -- these events, and before them that of the act where it counts
+  -- these events, and before them that of the act if it counts
   abbrev with_event : Bool → List Event → List Event
   with_event b events = if b then act.event ∷ events else events
 

@@ -1,4 +1,4 @@
--- What closing the connections that are open leaves, and where the store failed in a session that
+-- What closing the connections that are open leaves, and if the store failed in a session that
 -- was served after that.
 use Rattle.std.proofs.Common.{if◌then◌else◌}
 use Rattle.std.proofs.Common.{◌≡◌, ◌⊎◌, ℕ, Bool, true, false, ◌||◌, List, [], ◌∷◌, ◌++◌}
@@ -132,7 +132,7 @@ step-journal effects old e outcome new h =
     ))
     (cases_Bool (is_kept outcome))
 
--- the first connections of these were closed, and all of them where none was refused
+-- the first connections of these were closed, and all of them if none was refused
 abbrev pub ClosedFirst : Past → List ℕ → Option ReplyOrMemory → Past → Type 0
 ClosedFirst start conns refusal closed =
     (done more : List ℕ) × (conns ≡ done ++ more)

@@ -301,7 +301,7 @@ module _ (laws : EpochLaws) (past : Past) (act : LogEntry) (conn : ℕ) (before 
       (step-goes laws past act.event act.outcome act.left before legal)
       (subst (IsGivenOut past) (eqb-true by conn about) named)
 
--- where a log leaves fewer connections, none of its acts is of the connection
+-- if a log leaves fewer connections, none of its acts is of the connection
 pub about-none : EpochLaws → (conn : ℕ) (past : Past) (log : List LogEntry) → ShutBefore past
     → IsSessionLog past log → AreNamed past log
     → length (state_of (left_by past log)).connections < conn → acts_about conn log ≡ []

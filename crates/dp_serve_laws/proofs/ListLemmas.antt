@@ -65,7 +65,7 @@ module _ {X A : Type 0} (f : X → List A) where
   apart a x y xs d own h other =
       distinct_apart (f x) (flat_map f xs) d a own (flat-in a y xs h other)
 
-  -- where all are distinct, an item is of one list
+  -- if all are distinct, an item is of one list
   pub one-source : (a : A) (x y : X) (xs : List X) → AreDistinct (flat_map f xs) → IsIn x xs
       → IsIn y xs → IsIn a (f x) → IsIn a (f y) → x ≡ y
   one-source a x y [] d h k own other = absurd h
@@ -87,7 +87,7 @@ module _ {X A : Type 0} (f : X → List A) where
       distinct-one x xs (distinct-back (f y) (flat_map f xs) d) h
 
 module _ {X A : Type 0} (f g : X → List A) where
-  -- lists that have no more than others are distinct where those are
+  -- lists that have no more than others are distinct if those are
   pub distinct-fewer : (xs : List X) → ((x : X) → IsIn x xs → AreDistinct (g x))
       → ((x : X) (a : A) → IsIn x xs → IsIn a (g x) → IsIn a (f x))
       → AreDistinct (flat_map f xs) → AreDistinct (flat_map g xs)

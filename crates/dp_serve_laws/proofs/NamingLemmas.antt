@@ -70,7 +70,7 @@ after-all P (act ∷ acts) each = (
       (λ a h. names-weaker P (OrGiven P act) (λ c p. inl p) a.event (each a (inr h))),
 )
 
--- where that is so of the acts by each name, it is so of a whole log
+-- if that is so of the acts by each name, it is so of a whole log
 pub after-merged : (P : ℕ → Type 0) (log : List LogEntry)
     → ((act : LogEntry) → IsIn act log → NamesAfter P (entries_by act.by log)) → NamesAfter P log
 after-merged P [] each = tt

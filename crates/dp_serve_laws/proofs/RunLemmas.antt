@@ -176,7 +176,7 @@ close-own name greeting acts are =
         subst (IsAboutOne greeting.conn) (sym e) (close-one greeting.conn are.1 are.4)
     close act (inr h) = absurd h
 
--- the acts where nobody was greeted
+-- the acts if nobody was greeted
 refused-own : (end : GreetEnd) (read : List ℕ) (stream : Stream) (acts : List LogEntry)
     (held taken : Option (List ℕ)) → GreetsBy (Err end) read stream acts held taken
     → GivesItsOwn acts

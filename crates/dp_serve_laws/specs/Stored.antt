@@ -1,4 +1,4 @@
--- What a store holds beside a journal, where its rows are known.
+-- What a store holds beside a journal, if its rows are known.
 use Rattle.std.specs.Prelude.{◌≡◌, ◌⊎◌, ℕ, None, IfSome, List, [], ◌∷◌, ◌++◌}
 use Rattle.dp_io.specs.Faults.{Rose}
 use Rattle.dp_keeper.specs.declared.row.Row.{Row}

@@ -34,7 +34,7 @@ pub fn reports_name_distinct_connections<W, R, T>()
 
 /// The acts of a connection that a report names are those of its link, in order and no others. So
 /// of the events that the journal gains, those of the connection are the ones kept of these acts.
-/// They are all that the journal has of it, where the rows of the session's store were known.
+/// They are all that the journal has of it, if the rows of the session's store were known.
 pub fn acts_of_connections<W, R, T>()
     ensures acts { (see : Seen W R T) (start : Past) (most : ℕ) (old new : List W) (left : Left)
         (served : Serves see start most old new left) (run : LinkRun R T) (conn : ℕ)
@@ -59,7 +59,7 @@ pub fn acts_of_connections<W, R, T>()
 }
 
 /// Closing connections leads to a session as sound as it was. Its journal goes on by a Close of
-/// each of the first of them, and of all where none was refused.
+/// each of the first of them, and of all if none was refused.
 pub fn closings_go_on()
     ensures sound { (start closed : Past) (conns : List ℕ) (refusal : Option ReplyOrMemory)
         → ShutBefore start → ClosesEach start conns refusal closed → ShutBefore closed }
@@ -72,7 +72,7 @@ pub fn closings_go_on()
     sessions_go_on();
 }
 
-/// Where no put had failed before, the store failed only where a put did, which it has counted:
+/// If no put had failed before, the store failed only if a put did, which it has counted:
 /// while the connections that were open were closed, or while the session was served.
 pub fn store_faults_are_counted<W, R, T>()
     ensures { (see : Seen W R T) (start : Past) (most : ℕ) (old new : List W) (left : Left)
@@ -82,7 +82,7 @@ pub fn store_faults_are_counted<W, R, T>()
     events_have_effects();
 }
 
-/// The store holds the rows of the journal that is left, where it held those of the session's
+/// The store holds the rows of the journal that is left, if it held those of the session's
 /// journal before. Or a put has failed, which the store has counted, and it may hold the row of one
 /// event more.
 pub fn rows_are_kept<W, R, T>()

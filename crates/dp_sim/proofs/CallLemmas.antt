@@ -49,7 +49,7 @@ first-pulled : (live : List Entry) (epoch other at : ℕ) (b : Bool)
 first-pulled live epoch other at true = page-first at live
 first-pulled live epoch other at false = page-first 0 live
 
--- a connection that has not ended is pulled from, where none is quiet
+-- a connection that has not ended is pulled from, if none is quiet
 by-ending : (s : State) (quiet : List ℕ) (conn epoch at most : ℕ) (c : Connection) (e : Ending)
     → quiet ≡ []
     → is_some (if not (is_ended e) then Some c else None) ≡ true

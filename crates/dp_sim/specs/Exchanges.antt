@@ -72,7 +72,7 @@ left_line reply.Full = report.Ended
 left_line reply.Ended = report.Ended
 left_line (reply.StoreFault count) = report.Ended
 
--- of the answer to a Close where the uplink is lost
+-- of the answer to a Close if the uplink is lost
 abbrev pub cut_line : Reply → ReportLine
 cut_line (reply.Placed epoch at) = report.Cut epoch at
 cut_line (reply.Opened conn user epoch at) = report.Ended
@@ -117,7 +117,7 @@ up_line t (m ∷ rest) =
     then left_line (sure_answer (heard t m rest).past (event.Close t.participant.conn))
     else said_line (sure_answer t.past (event.Say t.participant.conn m))
 
--- the entry that the client takes next, if there is one: the first of the live history where the
+-- the entry that the client takes next, if there is one: the first of the live history if the
 -- client is in another epoch, and else the one after those that it has taken
 abbrev pub next_entry : Exchange → Option Entry
 next_entry t =

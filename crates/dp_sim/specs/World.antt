@@ -70,7 +70,7 @@ joined w registered name = record {
   participants = with_joined w.participants (sure_answer w.past (Open name registered));
 }
 
--- what the report says of the answer, where there were that many clients
+-- what the report says of the answer, if there were that many clients
 abbrev pub join_line : ℕ → Reply → ReportLine
 join_line clients (reply.Opened conn user epoch at) = report.Joined (clients + 1) user epoch at
 join_line clients reply.Full = report.Full

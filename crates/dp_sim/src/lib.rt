@@ -8,8 +8,6 @@ mod participant;
 mod reply_line;
 mod world;
 
-pub use laws::{
-    forbidden_changes_nothing, headline, instructions_are_moves, worlds_stay_worlds,
-};
+pub use laws::{forbidden_changes_nothing, headline, instructions_are_moves, worlds_stay_worlds};
 pub use participant::{LinkState, Participant};
 pub use world::World;

@@ -40,7 +40,7 @@ pub(crate) fn left_line(reply: Reply) -> ReportLine
     }
 }
 
-/// What the report says of the answer to a Close where the uplink is lost.
+/// What the report says of the answer to a Close if the uplink is lost.
 pub(crate) fn cut_line(reply: Reply) -> ReportLine
     ensures { result ≡ cut_line reply }
 {

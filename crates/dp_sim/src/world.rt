@@ -125,7 +125,7 @@ impl World {
     ///
     /// # Errors
     ///
-    /// Where memory runs out. Nothing is promised of the world then.
+    /// If memory runs out. Nothing is promised of the world then.
     pub fn join(&mut self, name: Octets, registered: bool) -> Result<ReportLine, AllocError>
         requires { IsWorld self.old }
         ensures line { IfOk result (λ line. line
@@ -141,7 +141,7 @@ impl World {
     ///
     /// # Errors
     ///
-    /// Where memory runs out. Nothing is promised of the world then.
+    /// If memory runs out. Nothing is promised of the world then.
     pub fn act<D: Ledger, T: Ledger>(
         &mut self,
         client: u32,

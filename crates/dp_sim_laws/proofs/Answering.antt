@@ -202,7 +202,7 @@ split-at [] k x is = cc
 split-at (y ∷ xs) zero x is = let same : y ≡ x = cc in ap (λ z. z ∷ xs) same
 split-at (y ∷ xs) (suc k) x is = ap (λ zs. y ∷ zs) (split-at xs k x is)
 
--- where a list goes on after a front, that is longer than the front, and goes on after one more
+-- if a list goes on after a front, that is longer than the front, and goes on after one more
 pub drop-first : {X : Type 0} (n : ℕ) (xs : List X) (x : X) (rest : List X) → drop n xs ≡ x ∷ rest
     → (suc n ≤ length xs) × (drop (suc n) xs ≡ rest)
 drop-first zero [] x rest is = cc

@@ -72,7 +72,7 @@ none-open n c is =
     let found = number-found [] n c (open_is_found [] n c is).0 in let no : None
     ≡ Some c = found.1 in cc
 
--- where there are no connections
+-- if there are no connections
 none-people : ArePeople 0 []
 none-people = record {
   users = λ n c is. absurd (none-open n c is);
@@ -562,7 +562,7 @@ free-id s user is =
     let h = find-passes (λ k. not (is_present s k)) 1 254 user is in
     (h.0, not-true (is_present s user) h.1)
 
--- none of the items at numbers passes where none does
+-- none of the items at numbers passes if none does
 none-at : (p : Connection → Bool) (cs : List Connection) (i : ℕ) (x : Connection)
     → list_any p cs ≡ false
     → slice_get cs i ≡ Some x → p x ≡ false

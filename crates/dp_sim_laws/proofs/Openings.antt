@@ -1,4 +1,4 @@
--- What an epoch opens with has a spelling, where the history before it and the commands have one.
+-- What an epoch opens with has a spelling, if the history before it and the commands have one.
 use Rattle.std.proofs.Common.{ℕ, zero, suc, ◌+◌, ◌-◌, ◌^◌, ◌<◌, ◌≤◌, ◌==◌, Bool, true, false}
 use Rattle.std.proofs.Common.{if◌then◌else◌, List, [], ◌∷◌, ◌++◌, length, map, Option, None, Some}
 use Rattle.std.proofs.Common.{sym, subst, arith, unwrap_or}
@@ -43,7 +43,7 @@ cons-all : {Y : Type 0} (P : Y → Type 0) (o : Option Y) (ys : List Y) → IfSo
 cons-all P None ys some each = each
 cons-all P (Some y) ys some each = All-cons P y ys some each
 
--- what a function gives of a list's items, where each does
+-- what a function gives of a list's items, if each does
 kept-all : {X Y : Type 0} (P : Y → Type 0) (f : X → Option Y) (xs : List X)
     → All (λ x. IfSome (f x) P) xs → All P (filter_map f xs)
 kept-all P f [] each = All-nil P

@@ -48,7 +48,7 @@ use Rattle.dp_sim_laws.proofs.Events.{IsOf, decided-is, is_ack}
 abbrev sent_by : ℕ → Option ℕ → List Draw → Stream
 sent_by conn place commands = record { owner = conn; commands = commands; place = place }
 
--- where it is the connection's, it has this place and these commands so far
+-- if it is the connection's, it has this place and these commands so far
 abbrev pub Owns : ℕ → Option ℕ → List Draw → Option Stream → Type 0
 Owns conn place commands stream =
     (sent : Stream) → stream ≡ Some sent → sent.owner ≡ conn

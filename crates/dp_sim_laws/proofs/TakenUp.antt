@@ -281,7 +281,7 @@ module _ (laws : Leading) (moves : InstructionsAreMoves)
       may w (Show actor kind) = tt
 
   module _ (rest : List Reply) where
-    -- along the actions the parts that are left are noted and the end opens the epoch, where the
+    -- along the actions the parts that are left are noted and the end opens the epoch, if the
     -- begin was noted and these parts after it
     abbrev Sends : List Action → Type 0
     Sends actions =

@@ -200,7 +200,7 @@ hears-reset epoch ready ms (m ∷ more) h hears =
     ∙ hears-reset epoch ready (ms ++ m ∷ []) more h.1
     (hears-push epoch ready ms m hears h.0.endless)
 
--- the acknowledgement of an epoch, where none stands on the uplink
+-- the acknowledgement of an epoch, if none stands on the uplink
 pub due-ack : (epoch before : ℕ) (ms : List Msg) → before < epoch
     → AllByRecursion (MayStand before) ms
     → due epoch false (ms ++ msg.Control (control.Ack epoch) ∷ []) ≡ []

@@ -1,4 +1,4 @@
--- What holds of the session's past through an action, where each event that may come keeps it; and
+-- What holds of the session's past through an action, if each event that may come keeps it; and
 -- what an action leaves of one client.
 use Rattle.std.proofs.Common.{◌≡◌, ℕ, List, ◌∷◌, None, Some, sym, ap, subst, ◌∙◌}
 use Rattle.std.specs.Prelude.{All}

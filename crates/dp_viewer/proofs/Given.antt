@@ -17,7 +17,7 @@ appends_nothing None new keeps = tt
 appends_nothing (Some xs) None keeps = absurd keeps
 appends_nothing (Some xs) (Some ys) keeps = keeps ∙ sym (append-nil xs)
 
--- Where the end is none of a fault (P says so), what the output grew by is the picture of what the
+-- If the end is none of a fault (P says so), what the output grew by is the picture of what the
 -- input comes to.
 pub whole_picture : (P : RunEnd → Type 0) → (P ReadFault → ⊥) → (P WriteFault → ⊥) → (P Memory → ⊥)
     → (way : Way) (bytes : List ℕ) (left old new : Option (List ℕ)) (end : RunEnd)

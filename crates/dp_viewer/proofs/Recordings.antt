@@ -30,7 +30,7 @@ ShowsFirst at input left board due reader =
     IfSome input (λ bytes. (all : List Entry) × HasReadOf bytes left all reader
     × TrailsShown board (first_of at all) × AreDue at all due)
 
--- what holds where a call answers `Ok`, where it didn't answer an error
+-- what holds if a call answers `Ok`, if it didn't answer an error
 pub on-no-error : {A E P : Type 0} (r : Result A E) (b : Bool) → b ≡ is_err r → b ≡ false
     → OnOk r P → P
 on-no-error (Ok a) b is passed on = on
@@ -136,7 +136,7 @@ at_end-of now ReadFault inside to_end = absurd to_end
 at_end-of now Long inside to_end = absurd to_end
 at_end-of now Memory inside to_end = absurd to_end
 
--- and where it answers that the input ended inside a frame, it has read to its end
+-- and if it answers that the input ended inside a frame, it has read to its end
 pub at_end-going : (now : Option (List ℕ)) (before after : ℕ) (old : Phase) (error : RecError)
     → GoesOn old → (old ≡ Failed error) ⊎ IsOfCall now before after error
     → ReadsToEnd (end_of error) → IsAtEnd now

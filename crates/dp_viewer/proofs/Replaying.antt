@@ -67,7 +67,7 @@ keeps_same : (out : Option (List ℕ)) → Keeps out out
 keeps_same None = tt
 keeps_same (Some xs) = refl
 
--- nothing is written where the input isn't read to its end
+-- nothing is written if the input isn't read to its end
 pub nothing_shown : (way : Way) (told left out : Option (List ℕ)) (before now : ℕ)
     (board : Trailing Board Draw) (end : RunEnd)
     → IfSome told (λ input. EndsReading way input left board end)

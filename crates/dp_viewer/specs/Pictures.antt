@@ -12,7 +12,7 @@ use Rattle.dp_lines.specs.declared.run_end.RunEnd.TheVariants.{BadMessage, Close
 use Rattle.dp_viewer.specs.Ways.{Way}
 
 -- what the output is due for an input of these entries and this end: the picture of those that are
--- shown where the input is read to its end, else nothing
+-- shown if the input is read to its end, else nothing
 abbrev pub picture_text : Way → List Entry → RunEnd → List ℕ
 picture_text way entries Done = p6 (shown (way.shows entries))
 picture_text way entries (Truncated n) = p6 (shown (way.shows entries))
@@ -47,7 +47,7 @@ StopsAtCause way input left end =
     × way.took 4096 bytes left)
 
 -- What a run that ends so leaves of an input and on the output: the picture of the entries of the
--- whole frames that are shown, a prefix of it, or nothing. Where the input failed, what was taken
+-- whole frames that are shown, a prefix of it, or nothing. If the input failed, what was taken
 -- of it holds no cause.
 abbrev pub PictureLeaves : Way → Option (List ℕ) → Option (List ℕ) → Option (List ℕ)
     → Option (List ℕ) → RunEnd → Type 0

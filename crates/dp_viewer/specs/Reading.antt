@@ -29,12 +29,12 @@ TrailsShown board entries =
 abbrev pub AreDue : Option ℕ → List Entry → Option ℕ → Type 0
 AreDue at entries due = due ≡ option_map (λ n. n - length entries) at
 
--- one more entry is to be shown where so many are left to show, or all
+-- one more entry is to be shown if so many are left to show, or all
 abbrev pub is_due : Option ℕ → Bool
 is_due None = true
 is_due (Some n) = nat_lt 0 n
 
--- How reading an input ended of which these bytes are left, where the board trails what it shows:
+-- How reading an input ended of which these bytes are left, if the board trails what it shows:
 -- by its bytes, with a piece at most after what holds no cause; by a fault, with nothing after it;
 -- or because memory ran out.
 abbrev pub EndsReading : Way → List ℕ → Option (List ℕ) → Trailing Board Draw → RunEnd → Type 0

@@ -22,9 +22,9 @@ use std::thread::Threads;
 ///
 /// # Errors
 ///
-/// It ends with `BadMessage` at the first frame that carries no message, with `Long` where the
-/// input has more than 1 GiB, with `ReadFault` and `WriteFault` where the input and the output
-/// failed, and with `Memory` where memory ran out.
+/// It ends with `BadMessage` at the first frame that carries no message, with `Long` if the
+/// input has more than 1 GiB, with `ReadFault` and `WriteFault` if the input and the output
+/// failed, and with `Memory` if memory ran out.
 ///
 /// The rule: docs/protocol.md, "Commands".
 pub fn run_replay<I: Source, O: Sink, D: Ledger, T: Ledger>(
@@ -58,7 +58,7 @@ pub fn run_replay<I: Source, O: Sink, D: Ledger, T: Ledger>(
 ///
 /// # Errors
 ///
-/// As `run_replay`, and with `BadHeader` where the input begins with no header. Places are counted
+/// As `run_replay`, and with `BadHeader` if the input begins with no header. Places are counted
 /// from the input's start.
 ///
 /// The rule: docs/protocol.md, "Recordings".
@@ -90,7 +90,7 @@ pub fn run_play<R: Threads + Sync, I: Source, O: Sink, G: Gate, D: Ledger, T: Le
     }
 }
 
-/// Whether the input is read to its end where reading it ends so.
+/// Whether the input is read to its end if reading it ends so.
 fn reads_to_end(end: RunEnd) -> bool
     ensures yes { IsTrue result → ReadsToEnd end }
     ensures no { ReadsToEnd end → IsTrue result }
@@ -98,7 +98,7 @@ fn reads_to_end(end: RunEnd) -> bool
     matches!(end, RunEnd::Done | RunEnd::Truncated(_))
 }
 
-/// Writes the picture of what the board trails. Ends as given where it is written.
+/// Writes the picture of what the board trails. Ends as given if it is written.
 fn write_shown<O: Sink, D: Ledger, T: Ledger>(
     alloc: Global,
     board: ShownBoard,

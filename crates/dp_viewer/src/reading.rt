@@ -138,7 +138,7 @@ pub(crate) fn read_recording<R: Threads + Sync, I: Source, G: Gate, D: Ledger, T
     }
 }
 
-/// Shows the next entry where it is one of the first so many, of which `due` are left, or of all.
+/// Shows the next entry if it is one of the first so many, of which `due` are left, or of all.
 #[inline(always)]
 pub(crate) fn show_due<D: Ledger, T: Ledger>(
     alloc: Global,
@@ -161,7 +161,7 @@ pub(crate) fn show_due<D: Ledger, T: Ledger>(
     }
 }
 
-/// Whether one more entry is shown where `due` are left to show, or all. It is one less then.
+/// Whether one more entry is shown if `due` are left to show, or all. It is one less then.
 fn take_due(due: &mut Option<u32>) -> bool
     ensures value { result ≡ is_due due.old }
     ensures left { due.new ≡ option_map (λ n. n - 1) due.old }

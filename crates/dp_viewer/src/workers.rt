@@ -25,7 +25,7 @@ const LOOK: u32 = 64;
 pub struct Playing<'a, G> {
     /// How many of the first entries are shown, or all.
     pub at: Option<u32>,
-    /// How many workers paint, where 0 is 1.
+    /// How many workers paint, if 0 is 1.
     pub workers: u32,
     /// The gate that their jobs pass.
     pub gate: &'a G,
@@ -61,7 +61,7 @@ impl<'a, R: Threads + Sync, G: Gate> WorkersBoard<'a, R, G> {
         }
     }
 
-    /// Shows the next entry where it is one of the first so many, or of all.
+    /// Shows the next entry if it is one of the first so many, or of all.
     #[inline(always)]
     pub(crate) fn show<D: Ledger, T: Ledger>(
         &mut self,
@@ -80,7 +80,7 @@ impl<'a, R: Threads + Sync, G: Gate> WorkersBoard<'a, R, G> {
         self.tend(alloc, tiles)
     }
 
-    /// Where there are several workers, has them paint what waits on layers on which much does,
+    /// If there are several workers, has them paint what waits on layers on which much does,
     /// once for so many entries.
     #[inline(always)]
     fn tend<T: Ledger>(&mut self, alloc: Global, tiles: &mut Steps<T>) -> Result<(), AllocError>

@@ -85,7 +85,7 @@ fine-flags : (end : UpEnd) (acts : List LogEntry) → is_store_end end ≡ false
     → SaidFlags end acts
 fine-flags end acts none h = record { memory = inr h.memory; store = h.store ∙ sym none }
 
--- an answer that stops a link is the store's fault exactly where its end says so
+-- an answer that stops a link is the store's fault exactly if its end says so
 stop-store : (answer : Reply) → is_store_fault (Ok answer) ≡ is_store_end (up.Refused answer)
 stop-store reply.Ended = refl
 stop-store (reply.StoreFault count) = refl

@@ -85,7 +85,7 @@ pub record IsServed (past : Past) (conn : ℕ) (end : UpEnd) (down : DownEnd) (a
   pub writes : FaultMatchesDown down before.write_faults after.write_faults
   pub at_end : end ≡ up.End → IsAtEnd after.left
 
--- what both ends of a report say where nobody was greeted
+-- what both ends of a report say if nobody was greeted
 abbrev pub RefusedBy : UpEnd → DownEnd → List LogEntry → LinkState → LinkState → Type 0
 RefusedBy (up.NotGreeted end) sent acts before after =
     (sent ≡ down.NotGreeted) × IsGreetingRefused end acts before after

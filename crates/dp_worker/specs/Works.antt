@@ -42,7 +42,7 @@ module _ {R T : Type 0} where
     pub given : new.given ≡ old.given ++ map (λ run. run.given) runs
     pub back : new.back ≡ old.back ++ map (λ run. run.back) runs
 
-  -- in the end none is to come, where that is known
+  -- in the end none is to come, if that is known
   abbrev pub NoneToCome : Option (Links R T) → Option (Links R T) → Type 0
   NoneToCome old new = WhereKnown old (λ a b. b.to_come ≡ []) new
 
@@ -50,13 +50,13 @@ module _ {R T : Type 0} where
   abbrev pub run_ran_out : LinkRun R T → Bool
   run_ran_out run = ran_out run.report.up_end run.report.down_end run.acts
 
--- the wire's count of faults rose where a worker says that its wire failed, and else it stays
+-- the wire's count of faults rose if a worker says that its wire failed, and else it stays
 abbrev pub FaultMatchesWire : Bool → ℕ → ℕ → Type 0
 FaultMatchesWire true before now = Rose before now
 FaultMatchesWire false before now = now ≡ before
 
--- A worker has served these links, numbered from 0, one after another. Memory ran out only where it
--- says so, and the store failed in an act exactly where it says so.
+-- A worker has served these links, numbered from 0, one after another. Memory ran out only if it
+-- says so, and the store failed in an act exactly if it says so.
 pub record HasServed {R T : Type 0} (see : R × T → LinkState) (start : Past) (who : ℕ)
     (v w : SeatView) (old new : Option (Links R T)) (before now : ℕ) (worked : Worked)
     (runs : List (LinkRun R T)) : Type 0 where

@@ -83,7 +83,7 @@ pub(crate) struct ServedLink<R, S> {
     pub(crate) end: LinkEnd,
 }
 
-/// Serves a link: greets the painter, and where that succeeds says what it says and sends what it
+/// Serves a link: greets the painter, and if that succeeds says what it says and sends what it
 /// is to get, to the end of both.
 pub(crate) fn serve_link<
     W: Threads + Wait + Sync,
@@ -128,7 +128,7 @@ pub(crate) fn serve_link<
     }
 }
 
-/// Serves a painter who was greeted, on two seats. Where there is no second one, the painter leaves
+/// Serves a painter who was greeted, on two seats. If there is no second one, the painter leaves
 /// at once.
 fn talk<W: Threads + Wait + Sync, K: Keeper + Send, R: Source + Send, S: Sink + Send, G: Gate>(
     rt: &W,

@@ -75,9 +75,9 @@ pub(crate) fn run_pumps<
     Pumped { rx, tx, down, run }
 }
 
-/// Writes to a painter what it is to get, in another thread where one can be made, and meanwhile
+/// Writes to a painter what it is to get, in another thread if one can be made, and meanwhile
 /// says what the painter says. The first closure waits for acts, so it must not be run before the
-/// second one has ended where there is one thread: `join_mut` runs the second first there.
+/// second one has ended if there is one thread: `join_mut` runs the second first there.
 fn run_both<
     'a,
     W: Threads + Wait + Sync,

@@ -9,7 +9,7 @@ pub struct LinkReport {
     pub worker: u32,
     /// The number of the link among those of the wire, from 0.
     pub link: u32,
-    /// The connection. There is none exactly where nobody was greeted.
+    /// The connection. There is none exactly if nobody was greeted.
     pub conn: Option<u32>,
     /// How the painter's messages ended, or why nobody was greeted.
     pub up_end: UpEnd,

@@ -82,7 +82,7 @@ not_endless further nothing bytes none =
 
 -- ---- what a run leaves
 
--- Where the end is none of a fault (P says so), the report was written of what the input comes to.
+-- If the end is none of a fault (P says so), the report was written of what the input comes to.
 pub whole_report : (P : RunEnd → Type 0) → (P ReadFault → ⊥) → (P WriteFault → ⊥) → (P Memory → ⊥)
     → (bytes : List ℕ) (left old now : Option (List ℕ)) (c : Counters) (end : RunEnd)
     → WorldLeaves (Some bytes) left old now c end → P end

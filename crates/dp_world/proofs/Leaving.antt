@@ -29,7 +29,7 @@ use Rattle.dp_world.specs.RunEnds.{ReportsWhole, TookNoCause, WorldLeaves, run_e
 use Rattle.dp_world.proofs.Called.{FurtherStep}
 use Rattle.dp_world.proofs.Progress.{wrote_done}
 
--- where nothing is drawn, no more is than no action may draw
+-- if nothing is drawn, no more is than no action may draw
 nothing_draws : (c : Counters) → NothingIsDrawn c → DrawsFor [] c
 nothing_draws c (draws, tiles) = record {
   draws_rise = omega (arith, draws);

@@ -25,7 +25,7 @@ use Rattle.dp_sim.specs.Report.{report}
 use Rattle.dp_world.specs.Schedule.{AskFor, IsStep, WorldComesTo}
 use Rattle.dp_script.specs.Limits.{lines_limit}
 
--- how a run ends where that of its lines ends so
+-- how a run ends if that of its lines ends so
 abbrev pub run_end_of : ScriptEnd PictureEnd → RunEnd
 run_end_of script.Done = Done
 run_end_of (script.BadLine n) = BadLine n

@@ -80,7 +80,7 @@ impl WorldRun {
         Ok(WorldRun { alloc, world })
     }
 
-    /// What the line asks for. An error where it asks for nothing, or for what may not be done.
+    /// What the line asks for. An error if it asks for nothing, or for what may not be done.
     fn action_of(&self, line: &Line) -> Result<Action, Undone<PictureEnd>>
         ensures asks { IfOk result (Parses line.now.bytes) }
         ensures possible { IfOk result (IsPossible self.now.world) }
