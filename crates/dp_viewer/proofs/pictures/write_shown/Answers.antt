@@ -21,4 +21,5 @@ returns-in-Err-Failed-clause-shown g c =
     subst (λ (e : PictureEnd). OnTrue (is_sink_fault e) (Rose before now))
     c.in-Err-Failed.field-0-is c.in-Err-Failed.ensures.cause.failed in
     wrote-part (g.O.Sink.held c.args.output.now) (g.O.Sink.held c.write_p6.new.out) before now
-    c.args.board c.in-Ok.picture c.args.end c.in-Ok.ensures.replay c.in-Err-Failed.ensures.prefix rose
+    c.args.board c.in-Ok.picture c.args.end c.in-Ok.ensures.replay
+    c.in-Err-Failed.ensures.prefix rose
