@@ -14,6 +14,7 @@ ghost use Rattle.dp_commands.specs.Runs.{run_of};
 
 use crate::ending::Ending;
 use crate::server::run_server;
+use dp_canvas::Workers;
 use dp_drill::{Drill, run_drill};
 use dp_epochs::{Journal, Shut};
 use dp_io::{Sink, Source};
@@ -189,13 +190,17 @@ fn run_local<R: Threads + Sync, I: Source, O: Sink, G: Gate, D: Ledger, T: Ledge
         LocalCommand::Drill {
             seed,
             rounds,
-            workers: _,
+            workers,
         } => {
             let drill = Drill {
                 seed: *seed,
                 rounds: *rounds,
             };
-            run_drill(alloc, drill, output, draws, tiles)
+            let workers = Workers {
+                count: *workers,
+                gate,
+            };
+            run_drill(rt, alloc, drill, &workers, output, draws, tiles)
         }
     }
 }
