@@ -8,16 +8,16 @@ use Rattle.dp_drill.proofs.run.drill_history.Goals as goal
 
 pub history-requires : goal.history-requires
 history-requires c =
-    let same = drilled c.args.drill.seed c.args.drill.rounds c.in_ok-flow.field-0 c.play_rounds.new.flow
-    c.send_all.new.self c.in_ok-flow.ensures.flow c.in_ok-play_rounds.ensures.ok
+    let same = drilled c.args.drill.seed c.args.drill.rounds _ _
+    _ c.in_ok-flow.ensures.flow c.in_ok-play_rounds.ensures.ok
     c.in_ok-send_all.ensures.ok in
     subst (λ (f : Flow). GetsHistory f.past) (sym same)
     (c.drills_need_no_clients.ensures.gets c.args.drill.seed c.args.drill.rounds)
 
 pub returns : goal.returns
 returns c =
-    let same = drilled c.args.drill.seed c.args.drill.rounds c.in_ok-flow.field-0 c.play_rounds.new.flow
-    c.send_all.new.self c.in_ok-flow.ensures.flow c.in_ok-play_rounds.ensures.ok
+    let same = drilled c.args.drill.seed c.args.drill.rounds _ _
+    _ c.in_ok-flow.ensures.flow c.in_ok-play_rounds.ensures.ok
     c.in_ok-send_all.ensures.ok in
     subst (λ (es : List Entry). IfOk c.history.result (λ entries. entries ≡ es))
     (ap (λ (f : Flow). (state_of f.past).live) same
