@@ -14,6 +14,7 @@ ghost use Rattle.dp_commands.specs.Runs.{run_of};
 
 use crate::ending::Ending;
 use crate::server::run_server;
+use dp_canvas::Workers;
 use dp_drill::{Drill, run_drill};
 use dp_epochs::{Journal, Shut};
 use dp_io::{Sink, Source};
@@ -144,7 +145,7 @@ fn run_command<
 {
     match command {
         CommandLine::Local(command) => {
-            let end = run_local(alloc, command, input, output, draws, tiles);
+            let end = run_local(rt, alloc, command, input, output, gate, draws, tiles);
             Ran::without(alloc, Ending::Run(end), wires, keeper)
         }
         CommandLine::Join { addr: _, name } => {
@@ -160,11 +161,13 @@ fn run_command<
 }
 
 /// Runs a command on the input and the output alone.
-fn run_local<I: Source, O: Sink, D: Ledger, T: Ledger>(
+fn run_local<R: Threads + Sync, I: Source, O: Sink, G: Gate, D: Ledger, T: Ledger>(
+    rt: &R,
     alloc: Global,
     command: &LocalCommand,
     input: &mut I,
     output: &mut O,
+    gate: &G,
     draws: &mut Steps<D>,
     tiles: &mut Steps<T>,
 ) -> RunEnd
@@ -183,13 +186,17 @@ fn run_local<I: Source, O: Sink, D: Ledger, T: Ledger>(
         LocalCommand::Drill {
             seed,
             rounds,
-            workers: _,
+            workers,
         } => {
             let drill = Drill {
                 seed: *seed,
                 rounds: *rounds,
             };
-            run_drill(alloc, drill, output, draws, tiles)
+            let workers = Workers {
+                count: *workers,
+                gate,
+            };
+            run_drill(rt, alloc, drill, &workers, output, draws, tiles)
         }
     }
 }

@@ -4,26 +4,29 @@ ghost use Rattle.std.specs.Prelude.{◌≡◌, ◌++◌, length, map, IfOk, OnOk
 ghost use Rattle.dp_board.specs.Commands.{command_of, commands, drawn_commands};
 ghost use Rattle.dp_board.specs.Counts.{CountsFew};
 ghost use Rattle.dp_pixels.specs.Feet.{reach};
-ghost use Rattle.dp_plain.specs.Commands.{draw_all};
 ghost use Rattle.dp_replay.specs.Replay.{replay, undo_depth, user_act_of};
 
-use dp_board::{Act, Board, UserAct, drawn_flags, each_act_has_a_flag};
-use dp_canvas::Canvas;
+use dp_board::{Act, UserAct, drawn_flags, each_act_has_a_flag};
+use dp_canvas::{Canvas, Workers};
 use dp_messages::Entry;
 use dp_msg_draw::Draw;
 use dp_replay::{UNDO_DEPTH, act_of};
 use dp_steps::Steps;
+use dp_wire::Gate;
 use std::alloc::{AllocError, Global};
 use std::sync::ledger::Ledger;
+use std::thread::Threads;
 
-/// What the history shows. Each command that isn't undone is drawn once.
+/// What the history shows. Each command that isn't undone is drawn once, by workers.
 ///
 /// # Errors
 ///
 /// Some of them were drawn, each once, and their tiles are counted.
-pub(crate) fn paint_history<D: Ledger, T: Ledger>(
+pub(crate) fn paint_history<R: Threads + Sync, G: Gate, D: Ledger, T: Ledger>(
+    rt: &R,
     alloc: Global,
     entries: &[Entry],
+    workers: &Workers<'_, G>,
     draws: &mut Steps<D>,
     tiles: &mut Steps<T>,
 ) -> Result<Canvas, AllocError>
@@ -33,24 +36,8 @@ pub(crate) fn paint_history<D: Ledger, T: Ledger>(
 {
     let commands = drawn_commands(alloc, entries)?;
     let mut canvas = Canvas::new(alloc);
-    draw_each(&mut canvas, &commands, draws, tiles)?;
+    canvas.draw_batch(rt, &commands, workers, draws, tiles)?;
     Ok(canvas)
-}
-
-/// Draws the commands, one after the other.
-fn draw_each<D: Ledger, T: Ledger>(
-    canvas: &mut Canvas,
-    ops: &[Draw],
-    draws: &mut Steps<D>,
-    tiles: &mut Steps<T>,
-) -> Result<(), AllocError>
-    ensures board { OnOk result (canvas.new ≡ draw_all canvas.old ops.now) }
-    ensures few { CountsFew reach ops.now draws.old draws.new tiles.old tiles.new }
-{
-    for op in ops {
-        canvas.draw(op, draws, tiles)?;
-    }
-    Ok(())
 }
 
 /// The commands of a history that aren't undone, in its order.

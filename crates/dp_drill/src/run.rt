@@ -12,12 +12,15 @@ use crate::laws::drills_need_no_clients;
 use crate::painting::paint_history;
 use crate::rounds::{begin, play_rounds};
 use crate::summary::{summary, sums_of};
+use dp_canvas::Workers;
 use dp_epochs::Entries;
 use dp_io::{Failed, Sink, put_all};
 use dp_lines::RunEnd;
 use dp_steps::Steps;
+use dp_wire::Gate;
 use std::alloc::{AllocError, Global};
 use std::sync::ledger::Ledger;
+use std::thread::Threads;
 
 /// A drill: the number that it is made from, and how many rounds it has.
 #[derive(Clone, Copy, Debug, PartialEq, Eq)]
@@ -27,7 +30,8 @@ pub struct Drill {
 }
 
 /// Makes the session of a drill, and writes its summary. Of its history each command that isn't
-/// undone is drawn once.
+/// undone is drawn once, by so many workers, where 0 is 1. What is written is the same for each
+/// number of them.
 ///
 /// # Errors
 ///
@@ -35,9 +39,11 @@ pub struct Drill {
 /// `Memory` where memory ran out: nothing was written.
 ///
 /// The rule: docs/protocol.md, "Drills".
-pub fn run_drill<O: Sink, D: Ledger, T: Ledger>(
+pub fn run_drill<R: Threads + Sync, O: Sink, G: Gate, D: Ledger, T: Ledger>(
+    rt: &R,
     alloc: Global,
     drill: Drill,
+    workers: &Workers<'_, G>,
     output: &mut O,
     draws: &mut Steps<D>,
     tiles: &mut Steps<T>,
@@ -48,7 +54,7 @@ pub fn run_drill<O: Sink, D: Ledger, T: Ledger>(
         → FaultMatchesEnd n n (O.faults output.old) (O.faults output.new) result }
     ensures output_later { O.faults output.old ≤ O.faults output.new }
 {
-    let Ok(text) = drill_text(alloc, drill, draws, tiles) else {
+    let Ok(text) = drill_text(rt, alloc, drill, workers, draws, tiles) else {
         return RunEnd::Memory;
     };
     match put_all(output, &text) {
@@ -58,9 +64,11 @@ pub fn run_drill<O: Sink, D: Ledger, T: Ledger>(
 }
 
 /// What a drill prints.
-fn drill_text<D: Ledger, T: Ledger>(
+fn drill_text<R: Threads + Sync, G: Gate, D: Ledger, T: Ledger>(
+    rt: &R,
     alloc: Global,
     drill: Drill,
+    workers: &Workers<'_, G>,
     draws: &mut Steps<D>,
     tiles: &mut Steps<T>,
 ) -> Result<Vec<u8>, AllocError>
@@ -69,7 +77,7 @@ fn drill_text<D: Ledger, T: Ledger>(
         draws.old draws.new tiles.old tiles.new }
 {
     let entries = drill_history(alloc, drill)?;
-    let canvas = paint_history(alloc, entries.as_slice(), draws, tiles)?;
+    let canvas = paint_history(rt, alloc, entries.as_slice(), workers, draws, tiles)?;
     let sums = sums_of(&canvas);
     summary(
         alloc,
