@@ -8,10 +8,11 @@ use Rattle.std.proofs.lemmas.List.Sums.{fold-append}
 use Rattle.dp_messages.specs.declared.message.Msg.TheVariants as msg
 use Rattle.dp_schedule.specs.declared.action.Action.TheVariants.{Act}
 use Rattle.dp_schedule.specs.declared.action.Instruction.TheVariants.{Take, Up}
-use Rattle.dp_drill.specs.Flow.{Flow, flow_after}
+use Rattle.dp_drill.specs.Flow.{Flow, drill_flow, first_flow, flow_after, flow_after_all}
+use Rattle.dp_drill.specs.Flow.{last_sends}
 use Rattle.dp_drill.specs.declared.rounds.Brush.{Brush}
 use Rattle.dp_drill.specs.Schedule.{dab, drill_number, next, round, round_of, rounds, saying}
-use Rattle.dp_drill.specs.Schedule.{square}
+use Rattle.dp_drill.specs.Schedule.{first_actions, square}
 
 -- the round that comes next, and those that are left after it
 pub round-more : (f g : Flow) (x n i : ℕ) → i < n
@@ -24,6 +25,15 @@ round-more f g x n i within made =
     ∙ sym (fold-append flow_after f (round (drill_number (next x)) (drill_number (next (next x))))
     (rounds (next (next x)) (n - (i + 1))))
     ∙ ap (λ k. fold flow_after f (rounds x k)) left
+
+-- the first actions, then rounds, then what is sent in the end
+pub drilled : (seed count : ℕ) (a b d : Flow) → a ≡ flow_after_all first_actions
+    → b ≡ fold flow_after a (rounds seed count) → d ≡ fold flow_after b (last_sends b)
+    → d ≡ drill_flow seed count
+drilled seed count a b d began played sent =
+    sent ∙ ap (λ f. fold flow_after f (last_sends f)) (played
+    ∙ ap (λ f. fold flow_after f (rounds seed count)) began
+    ∙ sym (fold-append flow_after first_flow first_actions (rounds seed count)))
 
 -- ---- what is done in a round, by its kind
 

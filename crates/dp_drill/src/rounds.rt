@@ -66,7 +66,9 @@ pub(crate) fn play_rounds(
     for _ in 0..count {
         let first = next(x);
         let second = next(first);
-        play_round(alloc, flow, drill_number(first), drill_number(second))?;
+        let r = drill_number(first);
+        let v = drill_number(second);
+        play_round(alloc, flow, r, v)?;
         x = second;
     }
     Ok(())

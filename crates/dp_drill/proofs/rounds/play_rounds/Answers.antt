@@ -15,8 +15,8 @@ loop-preserved c =
     let second : c.next-second.result ≡ next (next x) = c.next-second.ensures ∙ ap next first in
     let made = c.in_ok-play_round.ensures.ok
     ∙ ap₂ (λ r v. fold flow_after flow (round r v))
-    (c.drill_number.ensures.value ∙ ap drill_number first)
-    (c.drill_number-2.ensures.value ∙ ap drill_number second) in record {
+    (c.drill_number-r.ensures.value ∙ ap drill_number first)
+    (c.drill_number-v.ensures.value ∙ ap drill_number second) in record {
       flow = ap (λ y. fold flow_after c.play_round.new.flow (rounds y left)) second
           ∙ round-more flow c.play_round.new.flow x c.args.count c.loop.counter c.loop-test.true made
           ∙ c.loop.invariant.flow;
