@@ -54,7 +54,7 @@ struct Painter {
     said: VecDeque<Word>,
 }
 
-/// Sets a number, where there is one.
+/// Sets a number, if there is one.
 fn set(numbers: &mut [u64; NUMBERS], op: &SetNumber) {
     if op.place < NUMBERS {
         numbers[op.place] = op.value;
@@ -95,7 +95,7 @@ fn numbers_of(rt: &impl Abort, board: &NumberBoard) -> [u64; NUMBERS] {
     numbers
 }
 
-/// Says a word, and once more where memory was refused.
+/// Says a word, and once more if memory was refused.
 fn say<D: Ledger, T: Ledger>(
     painter: &mut Painter,
     word: Word,
@@ -109,7 +109,7 @@ fn say<D: Ledger, T: Ledger>(
     }
 }
 
-/// Goes on with the confirmed board, and once more where memory was refused.
+/// Goes on with the confirmed board, and once more if memory was refused.
 fn take<D: Ledger, T: Ledger>(
     painter: &mut Painter,
     word: Word,
@@ -122,7 +122,7 @@ fn take<D: Ledger, T: Ledger>(
     }
 }
 
-/// Goes on with the fork, and once more where memory was refused. Where it is quiet, by its call
+/// Goes on with the fork, and once more if memory was refused. Where it is quiet, by its call
 /// that takes no memory, if that is asked.
 fn answer<D: Ledger, T: Ledger>(
     painter: &mut Painter,

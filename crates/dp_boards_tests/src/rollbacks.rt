@@ -67,7 +67,7 @@ fn numbers_of(rt: &impl Abort, board: &NumberBoard) -> [u64; NUMBERS] {
     numbers
 }
 
-/// Takes an act, and once more where memory was refused.
+/// Takes an act, and once more if memory was refused.
 fn take<D: Ledger, T: Ledger>(
     rollback: &mut Rollback<NumberBoard>,
     act: &UserAct<SetNumber>,
@@ -140,7 +140,7 @@ static SCRIPTS: [(u32, &str, &str); 16] = [
     (30, "S0 P1 D1 S0 U1", "--d-r"),
 ];
 
-/// The words of the group of a number, where each third group is undone and each sixth comes back.
+/// The words of the group of a number, if each third group is undone and each sixth comes back.
 /// Before each fifth a depth is set.
 fn add_group(script: &mut String, number: usize, commands: usize) -> Result<(), AllocError> {
     let (point, command, undo) = match number % 3 {
@@ -163,7 +163,7 @@ fn add_group(script: &mut String, number: usize, commands: usize) -> Result<(), 
     script.push_str(if number % 6 == 5 { " U1 R3" } else { "" })
 }
 
-/// A script of so many groups. Each has `commands` commands, or, where that is `None`, from 0 to 19
+/// A script of so many groups. Each has `commands` commands, or, if that is `None`, from 0 to 19
 /// in turn.
 fn script_of(rt: &impl Abort, alloc: Global, groups: usize, commands: Option<usize>) -> String {
     let mut script = String::new(alloc);

@@ -21,7 +21,7 @@ const PIXELS: usize = 8;
 /// How many of the last points undo and redo reach.
 const DEPTH: u32 = 30;
 
-/// The blue of each pixel, or `None` where there is no layer.
+/// The blue of each pixel, or `None` if there is no layer.
 type Row = [Option<u16>; PIXELS];
 
 /// What a script's word does: whose the act is, what it does, and its digit and blue.
@@ -133,7 +133,7 @@ fn check_rows<B: Board<Op = Draw> + BoardView, D: Ledger, T: Ledger>(
     assert!(rt; row_of(painter.screen.view()) == view, "{letters}");
 }
 
-/// Says a word. Where memory was refused, what is seen is as it was, and it is said once more.
+/// Says a word. If memory was refused, what is seen is as it was, and it is said once more.
 fn say<B: Board<Op = Draw> + BoardView, D: Ledger, T: Ledger>(
     rt: &impl Abort,
     painter: &mut Painter<B>,
@@ -150,7 +150,7 @@ fn say<B: Board<Op = Draw> + BoardView, D: Ledger, T: Ledger>(
     painter.said.push_back(word).expect(rt, "memory");
 }
 
-/// Takes a word that was sent, as this to the fork. Where memory was refused, what is seen is as it
+/// Takes a word that was sent, as this to the fork. If memory was refused, what is seen is as it
 /// was, and it is taken once more.
 fn take<B: Board<Op = Draw> + BoardView, D: Ledger, T: Ledger>(
     rt: &impl Abort,

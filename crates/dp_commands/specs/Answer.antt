@@ -41,7 +41,7 @@ line_of BadHeader = codes "bad header\n"
 abbrev pub usage_line : List ℕ
 usage_line = codes "usage: drawpile replay, world, play, join, serve or drill\n"
 
--- the line that is said where a command needs links, and the wires for them aren't there
+-- the line that is said if a command needs links, and the wires for them aren't there
 abbrev pub no_link_line : List ℕ
 no_link_line = codes "no link\n"
 
@@ -59,7 +59,7 @@ answer_for end text = record { status = status_of end; text = text; line = line_
 abbrev pub usage_answer : Answer
 usage_answer = record { status = 1; text = []; line = usage_line }
 
--- the answer where a command needs links, and the wires for them aren't there
+-- the answer if a command needs links, and the wires for them aren't there
 abbrev pub no_link_answer : Answer
 no_link_answer = record { status = 13; text = []; line = no_link_line }
 

@@ -11,7 +11,7 @@ use Rattle.dp_commands.specs.Endings.{Wires}
 use Rattle.dp_commands.specs.Runs.{run_of}
 
 -- The answer that the command is due for an input of these bytes, and a link that gives these
--- bytes, where it gets one. (A server that gets its wires is due no such answer.)
+-- bytes, if it gets one. (A server that gets its wires is due no such answer.)
 abbrev pub DueOf : CommandLine → List ℕ → Option (List ℕ) → Answer → Type 0
 DueOf (Local command) input link answer = (run_of command).due input answer
 DueOf (Join addr name) input None answer = answer ≡ no_link_answer
@@ -21,7 +21,7 @@ DueOf (Join addr name) input (Some link) answer =
 DueOf (Listen addr workers conns service) input link answer = answer ≡ no_link_answer
 
 -- The answer that the words, the input's bytes and the link's are due: that of the command for
--- which they ask, and the line about the words where they ask for none.
+-- which they ask, and the line about the words if they ask for none.
 abbrev pub IsDue : {A : Type 0} → List (String A) → List ℕ → Option (List ℕ) → Answer → Type 0
 IsDue words input link answer =
     ((command : CommandLine) × Asks words command × DueOf command input link answer)
@@ -41,7 +41,7 @@ pub record GivesLink {W R T : Type 0} (see : Wires W R T) (wires : List W) (byte
   pub next : links.to_come ≡ (rx, tx) ∷ more
   pub holds : see.left rx ≡ Some bytes
 
--- the bytes of the link that the words get: none, where they get no link
+-- the bytes of the link that the words get: none, if they get no link
 abbrev pub GetsLink : {A W R T : Type 0} → Wires W R T → List (String A) → List W
     → Option (List ℕ) → Type 0
 GetsLink see words wires None = ¬ HasLink words wires

@@ -16,7 +16,7 @@ use Rattle.dp_commands.specs.declared.ending.Ending.TheVariants.{Usage, NoLink, 
 use Rattle.dp_commands.specs.declared.ending.Ending.TheVariants.{StoreFault, BadRow}
 use Rattle.dp_commands.specs.Answer.{line_of, no_link_line, status_of, usage_line}
 
--- the program's status where it ends so
+-- the program's status if it ends so
 abbrev pub code_of : Ending → ℕ
 code_of Usage = 1
 code_of NoLink = 13
@@ -88,7 +88,7 @@ kept journal shut reports = record { journal = journal; shut = shut; reports = r
 abbrev pub KeepsNothing : Kept → Type 0
 KeepsNothing kept = (kept.journal ≡ []) × (kept.shut ≡ []) × (kept.reports ≡ [])
 
--- the store before and now: its rows, where they are known, and how often a put of it has failed,
+-- the store before and now: its rows, if they are known, and how often a put of it has failed,
 -- and a reading
 pub record Stores : Type 0 where
   pub held : Option (List Row)

@@ -1,4 +1,4 @@
--- What is left where the program joins a session over a link.
+-- What is left if the program joins a session over a link.
 use Rattle.std.specs.Prelude.{◌≡◌, ℕ, ◌⊎◌, List, ◌∷◌, Option}
 use Rattle.dp_joining.specs.Runs.{Ends, RunLeaves}
 use Rattle.dp_lines.specs.declared.run_end.RunEnd.{RunEnd}
@@ -34,7 +34,7 @@ pub record JoinsOn {W R T : Type 0} (see : Wires W R T) (name : List ℕ) (e : E
       (see.links now) (see.faults wire) (see.faults now) (ends_of e.streams) end
   pub nothing : KeepsNothing e.kept
 
--- What is left where the words ask to join by this name and there is a wire: the session was joined
+-- What is left if the words ask to join by this name and there is a wire: the session was joined
 -- over the first wire, and the end is said; or memory ran out before the words were read.
 pub record HasJoined {W R T : Type 0} (see : Wires W R T) (name : List ℕ) (e : Effects W)
     (diag said : Option (List ℕ)) (before now status : ℕ) : Type 0 where

@@ -23,7 +23,7 @@ pub record RunsLocally {W : Type 0} (run : runs.Run) (e : Effects W) (end : RunE
       e.streams.written_now end
   pub stays : StaysLocal e
 
--- what a run of the command leaves that ends so, where the wires that it needs are there
+-- what a run of the command leaves that ends so, if the wires that it needs are there
 abbrev pub KindLeaves : {W R T : Type 0} → Wires W R T → CommandLine → Effects W → Ending → Type 0
 KindLeaves see (Local command) e ending =
     (end : RunEnd) × (ending ≡ Run end) × RunsLocally (run_of command) e end

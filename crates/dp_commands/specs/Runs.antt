@@ -45,7 +45,7 @@ IsUnfailed (BadMessage n) = ⊤
 IsUnfailed Closed = ⊤
 IsUnfailed BadHeader = ⊤
 
--- where the end says that the input was read to its end, nothing is left of it
+-- if the end says that the input was read to its end, nothing is left of it
 abbrev pub IsReadWhole : RunEnd → Option (List ℕ) → Type 0
 IsReadWhole Done left = IsAtEnd left
 IsReadWhole (Truncated n) left = IsAtEnd left
@@ -59,8 +59,8 @@ IsReadWhole (BadMessage n) left = ⊤
 IsReadWhole Closed left = ⊤
 IsReadWhole BadHeader left = ⊤
 
--- Each input is due one answer, and it is given where nothing failed; it can't be that it is due
--- none. A run that reads its input reads all of it where its end says so. It has begun with
+-- Each input is due one answer, and it is given if nothing failed; it can't be that it is due
+-- none. A run that reads its input reads all of it if its end says so. It has begun with
 -- nothing, and it has no link.
 pub record IsLocalRun (run : Run) : Type 0 where
   pub given : (bytes : List ℕ) (left old new : Option (List ℕ)) (c : Counters) (end : RunEnd)

@@ -1,4 +1,4 @@
--- What is left where the program serves a session.
+-- What is left if the program serves a session.
 use Rattle.std.specs.Prelude.{◌≡◌, ℕ, ◌⊎◌, Bool, true, false, List, Option, IfSome}
 use Rattle.dp_keeper.specs.declared.row.Row.{Row}
 use Rattle.dp_lines.specs.declared.run_end.RunEnd.TheVariants.{Done, LinkFault, Memory}
@@ -15,7 +15,7 @@ use Rattle.dp_commands.specs.Answer.{SaysLine}
 use Rattle.dp_commands.specs.Endings.{Effects, NothingIsDone, StaysLocal, Untouched, Wires, code_of}
 use Rattle.dp_commands.specs.Endings.{ending_line, served_wires}
 
--- how a server ends: where memory ran out, else where the store failed, else where a wire failed
+-- how a server ends: if memory ran out, else if the store failed, else if a wire failed
 abbrev pub server_end : Bool → Bool → Bool → Ending
 server_end true store wire = Run Memory
 server_end false true wire = StoreFault
@@ -45,7 +45,7 @@ pub record ServedOn {W R T : Type 0} (see : Wires W R T) (conns : Option ℕ) (e
   })
   pub end_is : ending ≡ server_end memory store wire
 
--- how the program ends where a session can't be resumed for that
+-- how the program ends if a session can't be resumed for that
 abbrev pub end_of_fault : ResumeFault → Ending
 end_of_fault fault.StoreFault = StoreFault
 end_of_fault (fault.BadRow n row) = BadRow n row
@@ -67,7 +67,7 @@ pub record RunsServer {W R T : Type 0} (see : Wires W R T) (conns : Option ℕ) 
   pub untouched : Untouched e.streams
   pub served : ServedOn see conns e ending ⊎ NotResumed e ending
 
--- What is left where the words ask for a server and there is a wire for each worker: the session
+-- What is left if the words ask for a server and there is a wire for each worker: the session
 -- was served, or couldn't be resumed, and the end is said; or memory ran out before the words were
 -- read.
 pub record HasServed {W R T : Type 0} (see : Wires W R T) (conns : Option ℕ) (e : Effects W)
@@ -76,6 +76,6 @@ pub record HasServed {W R T : Type 0} (see : Wires W R T) (conns : Option ℕ) (
   pub serves : RunsServer see conns e ending ⊎ ((ending ≡ NoWords) × NothingIsDone e)
   pub says : SaysLine (code_of ending) (ending_line ending) diag said before now status
 
--- one of the store's rows may not stand; where they are known it is the first that may not
+-- one of the store's rows may not stand; if they are known it is the first that may not
 abbrev pub HasBadRow : Option (List Row) → Type 0
 HasBadRow held = (n : ℕ) × (row : Row) × IsBad held (fault.BadRow n row)

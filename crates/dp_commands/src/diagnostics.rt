@@ -16,7 +16,7 @@ use dp_lines::RunEnd;
 use hex::encode_to_slice;
 use itoa::Buffer;
 
-/// Says how the program ended, and answers its status: 4 where diag fails.
+/// Says how the program ended, and answers its status: 4 if diag fails.
 pub fn say<E: Sink>(diag: &mut E, ending: &Ending) -> u8
     ensures says { SaysLine (code_of ending.now) (ending_line ending.now)
         (E.held diag.old) (E.held diag.new) (E.faults diag.old) (E.faults diag.new) result }
@@ -28,7 +28,7 @@ pub fn say<E: Sink>(diag: &mut E, ending: &Ending) -> u8
     }
 }
 
-/// The program's status where it ends so.
+/// The program's status if it ends so.
 fn code_of(ending: &Ending) -> u8
     ensures { result ≡ code_of ending.now }
 {

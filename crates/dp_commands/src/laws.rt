@@ -7,7 +7,7 @@ use dp_viewer::{each_play_ends, each_replay_ends, one_play, one_replay};
 use dp_world::{every_schedule, one_schedule};
 
 /// Each command on the input and the output alone is a run: an input is due one answer, which is
-/// given where nothing failed.
+/// given if nothing failed.
 pub fn local_commands_are_runs()
     ensures { (command : LocalCommand) → IsLocalRun (run_of command) }
 {

@@ -63,7 +63,7 @@ impl<W, K> Ran<W, K> {
     }
 }
 
-/// Runs what the words ask for, with the wires where that takes links.
+/// Runs what the words ask for, with the wires if that takes links.
 pub fn run_words<
     R: Threads + Wait + Sync,
     I: Source,
@@ -205,7 +205,7 @@ fn run_local<R: Threads + Sync, I: Source, O: Sink, G: Gate, D: Ledger, T: Ledge
     }
 }
 
-/// Joins a session over the first of the wires, where there is one, and gives the wires back.
+/// Joins a session over the first of the wires, if there is one, and gives the wires back.
 fn run_link<I: Source, O: Sink, W: Wire, K: Keeper, D: Ledger, T: Ledger>(
     alloc: Global,
     name: &Text,
@@ -234,7 +234,7 @@ fn run_link<I: Source, O: Sink, W: Wire, K: Keeper, D: Ledger, T: Ledger>(
     Ran::without(alloc, ending, wires, keeper)
 }
 
-/// Joins a session over the first of the wires, where there is one.
+/// Joins a session over the first of the wires, if there is one.
 fn join_first<I: Source, O: Sink, W: Wire, D: Ledger, T: Ledger>(
     alloc: Global,
     name: &Text,

@@ -18,7 +18,7 @@ use std::alloc::Global;
 use std::sync::Wait;
 use std::thread::Threads;
 
-/// Serves the session of the store's rows with a worker for each wire, where there are as many as
+/// Serves the session of the store's rows with a worker for each wire, if there are as many as
 /// it takes.
 pub(crate) fn run_server<R: Threads + Wait + Sync, W: Wire + Send, K: Keeper + Send, G: Gate>(
     rt: &R,
@@ -67,7 +67,7 @@ pub(crate) fn run_server<R: Threads + Wait + Sync, W: Wire + Send, K: Keeper + S
     }
 }
 
-/// How the program ends where a session can't be resumed for that.
+/// How the program ends if a session can't be resumed for that.
 fn end_of_fault(why: ResumeFault) -> Ending
     ensures { result ≡ end_of_fault why }
 {

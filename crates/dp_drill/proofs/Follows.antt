@@ -154,7 +154,7 @@ epoch-stays laws past conn m before plain =
 
 -- ---- one instruction
 
--- an exchange of the client of a number, where these were the uplinks, and what became of the flow
+-- an exchange of the client of a number, if these were the uplinks, and what became of the flow
 record IsMade (ups : List (List Msg)) (n : ℕ) (u : Exchange) (g : Flow) : Type 0 where
   pub past : u.past ≡ g.past
   pub epoch : epoch_of (state_of u.past) ≡ 0

@@ -283,7 +283,7 @@ HistoriesAreShort =
     (past : Past) (epoch : ℕ)
     → length (history_of (state_of past) epoch) ≤ 2 * length past.journal + opening_limit
 
--- a connection that has not ended is pulled from, where none is quiet
+-- a connection that has not ended is pulled from, if none is quiet
 by-ending : (s : State) (quiet : List ℕ) (conn epoch at most : ℕ) (c : Connection) (e : Ending)
     → quiet ≡ [] → is_some (if not (is_ended e) then Some c else None) ≡ true
     → pulled_by s quiet conn epoch at most e ≡ pulled_from s epoch at most s.live

@@ -30,13 +30,13 @@ pub struct Drill {
 }
 
 /// Makes the session of a drill, and writes its summary. Of its history each command that isn't
-/// undone is drawn once, by so many workers, where 0 is 1. What is written is the same for each
+/// undone is drawn once, by so many workers, if 0 is 1. What is written is the same for each
 /// number of them.
 ///
 /// # Errors
 ///
-/// It ends with `WriteFault` where the output failed, after a prefix of the summary, and with
-/// `Memory` where memory ran out: nothing was written.
+/// It ends with `WriteFault` if the output failed, after a prefix of the summary, and with
+/// `Memory` if memory ran out: nothing was written.
 ///
 /// The rule: docs/protocol.md, "Drills".
 pub fn run_drill<R: Threads + Sync, O: Sink, G: Gate, D: Ledger, T: Ledger>(

@@ -98,7 +98,7 @@ along_few action actions coming j few =
     let test : nat_le (asked_by action) (length coming) ≡ false = grind (arith, nat_tests) in
     along_next_line action actions coming j ∙ ap (λ b. next_line b action actions coming j) test
 
--- where lines go on, the first has enough
+-- if lines go on, the first has enough
 enough_of : (action : JoinAction) (actions : List JoinAction) (coming left : List Entry)
     (j now : Joining) → along (action ∷ actions) coming j ≡ Goes now left
     → asked_by action ≤ length coming

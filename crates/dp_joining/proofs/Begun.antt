@@ -297,7 +297,7 @@ joined_on name actions more (e ∷ es) ds first =
     (came_to (from name (actions ++ more) xs (greeted name e.msg)))) (sym l.whole)
     (greeted_on name actions more (takeable es) l.more (greeted name e.msg)))
 
--- the same where the actions are the first of others
+-- the same if the actions are the first of others
 joined_within : (name : List ℕ) (actions others : List JoinAction) (es ds : List Entry)
     (late : Progress) → IsFirstOf actions others → IsFirstOf es ds → joined name others ds ≡ late
     → GoesOn (came_to (joined name actions es)) (came_to late)
@@ -327,7 +327,7 @@ by_script j k (ends.BadLine n) on =
 by_script j k ends.TooLong on = record { text = on.text; written = on.written; due = on.due }
 
 module _ (laws : AllLaws) (name link : List ℕ) where
-  -- where all lines are done over these entries
+  -- if all lines are done over these entries
   towards_goes : (actions others : List JoinAction) (es ds : List Entry) (j : Joining)
       (left : List Entry) → IsFirstOf actions others → BeginsWith link es → BeginsWith link ds
       → joined name others ds ≡ Goes j left → GoesOn (came_to (joined name actions es)) j
@@ -340,7 +340,7 @@ module _ (laws : AllLaws) (name link : List ℕ) where
             further.1
       ]
 
-  -- where lines wait at an end of the link
+  -- if lines wait at an end of the link
   towards_waits : (actions others : List JoinAction) (es ds : List Entry) (waiting : Joining)
       (why : LinkCause) → IsFirstOf actions others → BeginsWith link es
       → IsClosed link ds why ⊎ IsEnded link ds why → joined name others ds ≡ Waits waiting

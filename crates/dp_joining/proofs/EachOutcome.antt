@@ -155,7 +155,7 @@ begins link entries (run.BadLine n) comes = absurd comes
 begins link entries run.Closed comes = absurd comes
 begins link entries run.BadHeader comes = absurd comes
 
--- why it gives none more where none is a Disconnect
+-- why it gives none more if none is a Disconnect
 by_end : (link : List ℕ) (entries : List Entry) (end : RunEnd) → is_closed entries ≡ false
     → LinkComesTo link entries end → (why : LinkCause) × EndsLink link entries why
 by_end link entries run.Done still comes = (cause.Closed, inr (inl (still, comes)))

@@ -61,7 +61,7 @@ joined_from name link first start welcome actions given is =
 
 -- ---- what is known
 
--- where both are known
+-- if both are known
 when_known : (input link : Option (List ℕ)) (P : List ℕ → List ℕ → Type 0)
     → ((i l : List ℕ) → input ≡ Some i → link ≡ Some l → P i l)
     → IfSome input (λ i. IfSome link (λ l. P i l))

@@ -221,7 +221,7 @@ AddsTo old change text written due =
     → old.chats ≡ buffer (keep_last chat_limit j.chats) chat_limit
     → Adds j (change j) text written due
 
--- where the last text is printed
+-- if the last text is printed
 pub moves_last : (r : Result Unit JoinStop) (old now : Seen) (change : Joining → Joining)
     (text written : List ℕ) (due : List Draw) → LeadsTo old now change
     → AddsTo old change text written due → DrawsFew (counters_at old now) due
@@ -256,7 +256,7 @@ fails_last (Err stop) old now change text written due adds few writes write read
           (printing_no_entry old.print_faults now.print_faults stop fault) few;
     }
 
--- where writing to the link stops before anything is printed
+-- if writing to the link stops before anything is printed
 pub fails_first : (stop : JoinStop) (old now : Seen) (change : Joining → Joining)
     (text written : List ℕ) (due : List Draw) → AddsTo old change text written due
     → DrawsFew (counters_at old now) due
@@ -274,7 +274,7 @@ fails_first stop old now change text written due adds few writes same print read
       (writing_no_entry old.write_faults now.write_faults stop fault) few;
 }
 
--- where memory runs out before anything is printed
+-- if memory runs out before anything is printed
 pub fails_memory : (old now : Seen) (change : Joining → Joining)
     (text written : List ℕ) (due : List Draw) → AddsTo old change text written due
     → DrawsFew (counters_at old now) due

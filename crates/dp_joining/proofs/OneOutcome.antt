@@ -143,7 +143,7 @@ both_closed laws name actions link es ds begins closed begins_too closed_too =
       | inr first ↦ joined_closed name actions ds es closed_too first
     ]
 
--- a Disconnect is none of all the entries of a link where none of them is one
+-- a Disconnect is none of all the entries of a link if none of them is one
 not_closed : AllLaws → (link : List ℕ) (es ds : List Entry) (end : RunEnd)
     → BeginsWith link es → is_closed es ≡ true → LinkComesTo link ds end
     → is_closed ds ≡ false → ⊥
@@ -204,7 +204,7 @@ ends_same laws name actions link es ds why other (inr a) (inr b) = record {
   cause = a.is ∙ ap by_end (laws.end link es ds a.end b.end a.comes b.comes) ∙ sym b.is;
 }
 
--- where lines wait at an end of the link, they aren't all done over other entries of it
+-- if lines wait at an end of the link, they aren't all done over other entries of it
 waits_not_goes : AllLaws → (name : List ℕ) (actions : List JoinAction) (link : List ℕ)
     (es ds : List Entry) (waiting j : Joining) (left : List Entry)
     (why : LinkCause) → joined name actions es ≡ Waits waiting

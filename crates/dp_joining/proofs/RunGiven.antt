@@ -54,7 +54,7 @@ next-of {R} {T} links (Some now) known link back e h =
     subst (λ (o : Option (Links R T)). WhereKnown o (λ a b. Returns link back a b) (Some now)) e h
     in (now.to_come, returns.next)
 
--- Where the end is none of a fault (P says so), what the script and the link come to was written.
+-- If the end is none of a fault (P says so), what the script and the link come to was written.
 module _ (P : RunEnd → Type 0) (read : P ReadFault → ⊥) (write : P WriteFault → ⊥)
     (fault : P LinkFault → ⊥) (memory : P Memory → ⊥) where
   all-written : (name : List ℕ) (t : Traffic) (end : RunEnd) → JoinLeaves name t end → P end

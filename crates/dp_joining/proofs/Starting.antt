@@ -206,7 +206,7 @@ module _ (name : List ℕ) (t : Traffic) (source source_now sink sink_now : ℕ)
 
 -- ---- what was read of the script
 
--- where the client was welcomed, the link's bytes begin with a Welcome
+-- if the client was welcomed, the link's bytes begin with a Welcome
 pub welcomed_unread : (name : List ℕ) (link input left : Option (List ℕ)) (faults : ℕ)
     (now : Source) (client : State) → Welcomes link faults now client
     → WaitsUnread name link input left
@@ -216,7 +216,7 @@ welcomed_unread name (Some bytes) input left faults now client welcomes = λ non
     in
     absurd (cc (sym (none welcomes.first begins) ∙ welcomes.welcome name))
 
--- where it was not, nothing was read
+-- if it was not, nothing was read
 pub failed_unread : (name : List ℕ) (link input left : Option (List ℕ)) → left ≡ input
     → WaitsUnread name link input left
 failed_unread name None input left same = tt

@@ -130,7 +130,7 @@ took_more : (j : Joining) (e : Entry) (given more : List Entry)
 took_more j e given more is =
     ap (fold took_entry j) is ∙ fold-append took_entry j (takeable given) (e ∷ [])
 
--- where the client stops for another reason than the link, that is all there is to show
+-- if the client stops for another reason than the link, that is all there is to show
 pub shows_other : (stop : JoinStop) (bytes : List ℕ) (es : List Entry) → (IsNoEntry stop → ⊥)
     → BeginsWith bytes es → Shows bytes es stop
 shows_other WriteFault bytes es other begins = begins

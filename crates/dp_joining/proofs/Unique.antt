@@ -65,7 +65,7 @@ takeable-closed (e ∷ xs) ys closed =
 
 -- ---- more lines
 
--- where a line waits, those after it change nothing
+-- if a line waits, those after it change nothing
 along_waits : (actions more : List JoinAction) (coming : List Entry) (j : Joining)
     (waiting : Joining) → along actions coming j ≡ Waits waiting
     → along (actions ++ more) coming j ≡ Waits waiting
@@ -98,7 +98,7 @@ joined_waits name actions more (first ∷ rest) waiting waits =
 
 -- ---- the same lines over more entries
 
--- where all lines are done, they are done in the same way
+-- if all lines are done, they are done in the same way
 goes_from : (name : List ℕ) (actions : List JoinAction) (rest more : List Entry)
     (o : Option Joining) (j : Joining) (left : List Entry)
     → option_map_or (λ k. along actions (takeable rest) k) o (Waits (caller name))

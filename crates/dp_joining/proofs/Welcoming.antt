@@ -95,7 +95,7 @@ no_welcome left old now first begun reads none other = record {
   fault = reads.kept;
 }
 
--- the client is welcomed where there is memory for it
+-- the client is welcomed if there is memory for it
 pub welcomes_where : {E : Type 0} (r : Result State E) (left : Option (List ℕ)) (old now : Source)
     (first : Entry) (user epoch at : ℕ) → IfSome left (λ bytes. HasGiven old bytes [])
     → ReadsOn old now (first ∷ [])
@@ -157,7 +157,7 @@ untaken true p e xs none = inl refl
 untaken false true e xs none = inr refl
 untaken false false e xs none = absurd (cc (none))
 
--- where nothing is taken of what the link gave, nobody is welcomed
+-- if nothing is taken of what the link gave, nobody is welcomed
 waits_for : (name : List ℕ) (actions : List JoinAction) (given : List Entry) → takeable given ≡ []
     → joined name actions given ≡ Waits (caller name)
 waits_for name actions [] none = refl

@@ -32,14 +32,14 @@ pub record NoWelcome (left : Option (List ℕ)) (before now : ℕ) (stop : JoinS
   pub reads : IfSome left (λ bytes. Shows bytes given stop)
   pub fault : FaultMatchesReading before now stop
 
--- what was written of the Hello where the client stops so: a prefix, or all
+-- what was written of the Hello if the client stops so: a prefix, or all
 abbrev pub WroteHello : Option (List ℕ) → Option (List ℕ) → List ℕ → JoinStop → Type 0
 WroteHello old now hello WriteFault = GrowsByPrefix old now hello
 WroteHello old now hello LinkFault = GrowsByPrefix old now hello
 WroteHello old now hello Memory = GrowsByPrefix old now hello
 WroteHello old now hello (NoEntry why) = Appends old now hello
 
--- the counts of faults of the link's source and its sink where the client stops so
+-- the counts of faults of the link's source and its sink if the client stops so
 abbrev pub FaultMatchesGreeting : ℕ → ℕ → ℕ → ℕ → JoinStop → Type 0
 FaultMatchesGreeting source source_now sink sink_now WriteFault = ⊥
 FaultMatchesGreeting source source_now sink sink_now LinkFault =

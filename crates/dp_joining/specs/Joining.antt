@@ -52,7 +52,7 @@ sent_by user m = entry_bytes (record { user = user; msg = m })
 abbrev pub hello_bytes : List ℕ → List ℕ
 hello_bytes name = sent_by 0 (msg.Control (control.Hello name))
 
--- the Ack of an epoch, where one is due
+-- the Ack of an epoch, if one is due
 abbrev pub ack_bytes : ℕ → Option ℕ → List ℕ
 ack_bytes user None = []
 ack_bytes user (Some epoch) = sent_by user (msg.Control (control.Ack epoch))

@@ -35,7 +35,7 @@ pub record Traffic : Type 0 where
   pub sent_now : Option (List ℕ)
   pub counters : Counters
 
--- P holds of the bytes of the script and of the link, where both are known
+-- P holds of the bytes of the script and of the link, if both are known
 abbrev pub WhereKnown : Traffic → (List ℕ → List ℕ → Type 0) → Type 0
 WhereKnown t P = IfSome t.input (λ input. IfSome t.link (λ link. P input link))
 
@@ -47,7 +47,7 @@ WritesAll name t end =
     × (outcome.end ≡ end) × Appends t.print_old t.print_now outcome.text
     × Appends t.sent_old t.sent_now outcome.written × DrawsFew t.counters outcome.due)
 
--- what is written after what lines write: nothing, or the Disconnect where they are all lines of
+-- what is written after what lines write: nothing, or the Disconnect if they are all lines of
 -- the script
 abbrev pub IsParting : List ℕ → List Line → Progress → List ℕ → Type 0
 IsParting input begun progress parting =
@@ -92,7 +92,7 @@ abbrev pub ReadsNoFurther : Option (List ℕ) → Option (List ℕ) → Type 0
 ReadsNoFurther input left =
     IfSome input (λ bytes. TookWithin (HoldsNoCause IsJoinStep lines_limit) 4096 bytes left)
 
--- where the link's bytes begin with no Welcome, nothing was taken of the script
+-- if the link's bytes begin with no Welcome, nothing was taken of the script
 abbrev pub WaitsUnread : List ℕ → Option (List ℕ) → Option (List ℕ) → Option (List ℕ) → Type 0
 WaitsUnread name link input left = IfSome link (λ bytes.
     ((first : Entry) → BeginsWith bytes (first ∷ []) → greeted name first.msg ≡ None)
@@ -109,7 +109,7 @@ abbrev pub BeginsDue : List ℕ → Traffic → List ℕ → List ℕ → Type 0
 BeginsDue name t input link =
     (outcome : JoinOutcome) → JoinComesTo name input link outcome → GrowsTowards t outcome
 
--- the client was welcomed by this entry, and stands where it has greeted the server
+-- the client was welcomed by this entry, and stands if it has greeted the server
 pub record IsWelcome (name : List ℕ) (link : Option (List ℕ)) (first start : Seen)
     (welcome : Entry) : Type 0 where
   pub greets : greeted name welcome.msg ≡ Some (newcomer start.client name)

@@ -23,7 +23,7 @@ use Rattle.dp_script.specs.Limits.{lines_limit}
 
 -- ---- the script
 
--- a line is a step where it asks for something, whatever the lines before it are
+-- a line is a step if it asks for something, whatever the lines before it are
 abbrev pub IsJoinStep : List Line → Line → Type 0
 IsJoinStep done line = (action : JoinAction) × Asks line.bytes action
 
@@ -61,7 +61,7 @@ EndsLink link entries (cause.BadMessage n) =
 EndsLink link entries cause.Long =
     (is_closed entries ≡ false) × LinkComesTo link entries run.Long
 
--- how a run ends where its link gives no entry more
+-- how a run ends if its link gives no entry more
 abbrev pub link_end : LinkCause → RunEnd
 link_end cause.Closed = run.Closed
 link_end (cause.BadMessage n) = run.BadMessage n
@@ -77,7 +77,7 @@ pub record JoinOutcome : Type 0 where
   pub due : List Draw
   pub end : RunEnd
 
--- where the script comes to its end with all lines done, a Disconnect is written
+-- if the script comes to its end with all lines done, a Disconnect is written
 abbrev pub script_outcome : LinesEnd → Joining → JoinOutcome
 script_outcome ends.AllDone j = record {
   text = j.text;
@@ -90,7 +90,7 @@ script_outcome (ends.BadLine n) j =
 script_outcome ends.TooLong j =
     record { text = j.text; written = j.written; due = j.due; end = run.Long }
 
--- where the link gives no entry more, nothing is written after what the lines write
+-- if the link gives no entry more, nothing is written after what the lines write
 abbrev pub link_outcome : LinkCause → Joining → JoinOutcome
 link_outcome why j =
     record { text = j.text; written = j.written; due = j.due; end = link_end why }

@@ -12,7 +12,7 @@ use Rattle.dp_joining.specs.declared.stops.JoinStop.{JoinStop}
 use Rattle.dp_joining.specs.Joining.{farewell_bytes}
 use Rattle.dp_joining.specs.Stops.{end_of}
 
--- the Disconnect was written, or a prefix of it, where the link failed or memory ran out
+-- the Disconnect was written, or a prefix of it, if the link failed or memory ran out
 abbrev pub SaysFarewell : Option (List ℕ) → Option (List ℕ) → ℕ → ℕ → ℕ → RunEnd → Type 0
 SaysFarewell old now before after user end =
     ((end ≡ run.Done) × Appends old now (farewell_bytes user) × (after ≡ before))
@@ -26,7 +26,7 @@ pub record IsSilent (old now : Option (List ℕ)) (before after : ℕ) (due end 
   pub bytes : now ≡ old
   pub kept : after ≡ before
 
--- What is written to the link after the lines, and how the run ends: where all lines are done, the
+-- What is written to the link after the lines, and how the run ends: if all lines are done, the
 -- client says that it leaves.
 abbrev pub TakesLeave : Option (List ℕ) → Option (List ℕ) → ℕ → ℕ → ℕ → ScriptEnd JoinStop
     → RunEnd → Type 0

@@ -8,7 +8,7 @@ use Rattle.dp_wire.specs.Links.{Links, WhereKnown}
 use Rattle.dp_joining.specs.Leaves.{BeginsDue, FaultMatchesJoin, JoinLeaves}
 use Rattle.dp_joining.specs.Leaves.{ReadsNoFurther, Traffic, WaitsUnread, WhereKnown as WhereRead}
 
--- the script and the output before and after a run: their bytes, where they are known, and their
+-- the script and the output before and after a run: their bytes, if they are known, and their
 -- counts of faults; and the counters of draws and of tiles
 pub record Ends : Type 0 where
   pub input : Option (List ℕ)

@@ -25,7 +25,7 @@ use Rattle.dp_io.specs.Limits.{stream_limit}
 
 -- ---- the link
 
--- what clauses see of the source of a link: its bytes that are left, where they are known, its
+-- what clauses see of the source of a link: its bytes that are left, if they are known, its
 -- count of faults, and the reader of its entries
 pub record Source : Type 0 where
   pub left : Option (List ℕ)
@@ -52,7 +52,7 @@ pub record ReadsOn (old now : Source) (given : List Entry) : Type 0 where
   pub kept : now.faults ≡ old.faults
   pub readable : IsReadable now
 
--- the link's bytes begin with these entries, and after them it gives none where the client stops
+-- the link's bytes begin with these entries, and after them it gives none if the client stops
 -- for that
 abbrev pub Shows : List ℕ → List Entry → JoinStop → Type 0
 Shows bytes entries WriteFault = BeginsWith bytes entries
@@ -66,21 +66,21 @@ ReadsUpTo old given stop =
     (bytes : List ℕ) (before : List Entry) → HasGiven old bytes before → is_closed before ≡ false
     → Shows bytes (before ++ given) stop
 
--- the count of the source's faults where reading stops so
+-- the count of the source's faults if reading stops so
 abbrev pub FaultMatchesReading : ℕ → ℕ → JoinStop → Type 0
 FaultMatchesReading before now WriteFault = ⊥
 FaultMatchesReading before now LinkFault = Rose before now × (before ≤ now)
 FaultMatchesReading before now Memory = now ≡ before
 FaultMatchesReading before now (NoEntry why) = now ≡ before
 
--- the count of the sink's faults where writing to the link stops so
+-- the count of the sink's faults if writing to the link stops so
 abbrev pub FaultMatchesWriting : ℕ → ℕ → JoinStop → Type 0
 FaultMatchesWriting before now WriteFault = ⊥
 FaultMatchesWriting before now LinkFault = Rose before now × (before ≤ now)
 FaultMatchesWriting before now Memory = now ≡ before
 FaultMatchesWriting before now (NoEntry why) = ⊥
 
--- the count of the output's faults where printing stops so
+-- the count of the output's faults if printing stops so
 abbrev pub FaultMatchesPrinting : ℕ → ℕ → JoinStop → Type 0
 FaultMatchesPrinting before now WriteFault = Rose before now × (before ≤ now)
 FaultMatchesPrinting before now LinkFault = ⊥
@@ -103,7 +103,7 @@ pub record GivesNone (old now : Source) (stop : JoinStop) : Type 0 where
 -- ---- the client
 
 -- What clauses see of a client over a link and of its output: the client, the lines of chat that it
--- keeps, what was printed and what was written to the link, where that is known, with counts of
+-- keeps, what was printed and what was written to the link, if that is known, with counts of
 -- faults, the link's source, and the counters of draws and of tiles.
 pub record Seen : Type 0 where
   pub client : State
@@ -159,7 +159,7 @@ pub record Stands (start now : Seen) (j : Joining) : Type 0 where
   pub faultless : IsFaultless start now
   pub counts : DrawsFew (counters_at start now) j.due
 
--- which counts of faults have changed where the client stops so
+-- which counts of faults have changed if the client stops so
 abbrev pub FaultMatchesStop : Seen → Seen → JoinStop → Type 0
 FaultMatchesStop start now WriteFault =
     Rose start.print_faults now.print_faults × (start.print_faults ≤ now.print_faults)
@@ -176,7 +176,7 @@ pub record Began (start now : Seen) (text written : List ℕ) : Type 0 where
   pub printed : GrowsByPrefix start.printed now.printed text
   pub sent : GrowsByPrefix start.written now.written written
 
--- what was written where the client stops so on the way to this text and these bytes: prefixes, or
+-- what was written if the client stops so on the way to this text and these bytes: prefixes, or
 -- all
 abbrev pub Wrote : Seen → Seen → List ℕ → List ℕ → JoinStop → Type 0
 Wrote start now text written WriteFault = Began start now text written
@@ -208,7 +208,7 @@ abbrev pub StopsOn : Seen → Seen → (Joining → Joining) → JoinStop → Ty
 StopsOn old now change stop =
     (start : Seen) (j : Joining) → Stands start old j → Stops start now (change j) stop
 
--- the same where it reads no entry
+-- the same if it reads no entry
 pub record Fails (old now : Seen) (change : Joining → Joining) (stop : JoinStop) : Type 0 where
   pub not_for_entry : ¬ IsNoEntry stop
   pub stops : StopsOn old now change stop

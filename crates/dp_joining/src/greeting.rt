@@ -103,7 +103,7 @@ fn client_of(alloc: Global, welcome: Welcome) -> Result<CanvasClient, JoinStop>
     Ok(client)
 }
 
-/// What the message says, where it is a Welcome.
+/// What the message says, if it is a Welcome.
 fn welcome_of(msg: &Msg) -> Option<Welcome>
     ensures some { IfSome result (λ welcome. (name : List ℕ) → greeted name msg.now ≡ Some
         (newcomer (welcomed welcome.user welcome.epoch welcome.at) name)) }

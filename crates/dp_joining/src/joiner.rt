@@ -183,7 +183,7 @@ impl<R: Source, S: Sink> Joiner<R, S> {
         print_line(self.alloc, line, output)
     }
 
-    /// Acknowledges the epoch, where one is to be.
+    /// Acknowledges the epoch, if one is to be.
     fn acknowledge(&mut self, user: u8, ack: Option<u32>) -> Result<(), JoinStop>
         ensures written { OnOk result
             (Appends (S.held self.old.tx) (S.held self.new.tx) (ack_bytes user ack)) }

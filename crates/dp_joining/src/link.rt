@@ -43,9 +43,9 @@ pub struct Joined<R, S> {
 /// # Errors
 ///
 /// It ends with `BadLine` at the first line that asks for nothing, with `Closed`, `BadMessage` or
-/// `Long` where a line asks for an entry more than the link gives, with `Long` also where the
-/// script has more than 64 MiB, with `ReadFault`, `WriteFault` and `LinkFault` where the script,
-/// the output and the link failed, and with `Memory` where memory ran out.
+/// `Long` if a line asks for an entry more than the link gives, with `Long` also if the
+/// script has more than 64 MiB, with `ReadFault`, `WriteFault` and `LinkFault` if the script,
+/// the output and the link failed, and with `Memory` if memory ran out.
 ///
 /// The rule: docs/protocol.md, "Joining".
 pub fn join_link<I: Source, O: Sink, R: Source + Drop, S: Sink + Drop, D: Ledger, T: Ledger>(
@@ -184,7 +184,7 @@ fn do_script<I: Source, O: Sink, R: Source + Drop, S: Sink + Drop, D: Ledger, T:
     Joined { end, rx, tx }
 }
 
-/// Says that the client leaves, where all lines are done. How the run ends.
+/// Says that the client leaves, if all lines are done. How the run ends.
 fn leave<R: Source, S: Sink>(joiner: &mut Joiner<R, S>, ended: ScriptEnd<JoinStop>) -> RunEnd
     ensures parts { TakesLeave (S.held joiner.old.tx) (S.held joiner.new.tx)
         (S.faults joiner.old.tx) (S.faults joiner.new.tx) joiner.old.client.user ended result }

@@ -49,7 +49,7 @@ impl<R: Source, S: Sink, O: Sink, D: Ledger, T: Ledger> LineMachine<O, Steps<D>,
     }
 }
 
-/// What the line asks for. An error where it asks for nothing.
+/// What the line asks for. An error if it asks for nothing.
 fn action_of(alloc: Global, line: &Line) -> Result<JoinAction, Undone<JoinStop>>
     ensures asks { IfOk result (Asks line.now.bytes) }
     ensures sendable { IfOk result IsSendable }

@@ -19,7 +19,7 @@ use std::sync::ledger::Ledger;
 ///
 /// # Errors
 ///
-/// Where no link is given it ends with `LinkFault` or `Memory`, and it dials no further. Else it
+/// If no link is given it ends with `LinkFault` or `Memory`, and it dials no further. Else it
 /// ends as `join_link`.
 ///
 /// The rule: docs/protocol.md, "Joining".

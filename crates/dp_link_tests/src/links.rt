@@ -72,7 +72,7 @@ const SILENT: Row = Row {
     ..SERVED
 };
 
-/// The list of a number, or none where it is 0.
+/// The list of a number, or none if it is 0.
 fn numbers(rt: &impl Abort, alloc: Global, n: u64) -> Vec<u64> {
     let mut list = Vec::new(alloc);
     if n > 0 {

@@ -63,7 +63,7 @@ impl Machine for Tally {
 
     ghost answer = { λ t q. vec_len t.marks };
 
-    /// Answers whether the gate was open in time, where there is one.
+    /// Answers whether the gate was open in time, if there is one.
     fn step(&mut self, event: &Mark) -> Result<bool, AllocError> {
         if event.number == REFUSED {
             return Err(AllocError);

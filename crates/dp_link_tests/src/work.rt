@@ -33,7 +33,7 @@ pub fn seats_return<E, O, M>()
     seats_come_back::<E, O, M>();
 }
 
-/// Runs the first work in a new thread, or last where none can be made, and the second in this one.
+/// Runs the first work in a new thread, or last if none can be made, and the second in this one.
 fn run_both<R: Threads, V: Work + Send, W: Work>(
     rt: &R,
     hall: &Hall<Tally>,
@@ -203,7 +203,7 @@ impl<'a, R: Wait> Work for ActOnce<'a, R> {
 }
 
 /// Asks for the count while an act is at the gate, and then opens it. It gives the count, or `None`
-/// where no act came there in time.
+/// if no act came there in time.
 #[derive(Drop)]
 pub struct CountInside {
     pub gate: Arc<Gate>,

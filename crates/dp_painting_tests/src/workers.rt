@@ -82,7 +82,7 @@ fn gives_up<R: Threads + Sync + Abort>(
 }
 
 /// A picture of three rows of tiles, the last one cut, by some numbers of workers. Two of them are
-/// drawn at the same time where there are two workers or more.
+/// drawn at the same time if there are two workers or more.
 fn check_workers<R: Threads + Sync + Abort, D: Ledger, T: Ledger>(
     rt: &R,
     alloc: Global,
@@ -143,7 +143,7 @@ fn paints_in_turn<R: Threads + Sync + Abort, D: Ledger, T: Ledger>(
     gate.gave_up.load(Ordering::SeqCst) == 1
 }
 
-/// Two tiles of a batch are painted at the same time where there are two workers or more.
+/// Two tiles of a batch are painted at the same time if there are two workers or more.
 fn check_batches<R: Threads + Sync + Abort, D: Ledger, T: Ledger>(
     rt: &R,
     alloc: Global,

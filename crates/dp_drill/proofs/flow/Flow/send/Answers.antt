@@ -1,4 +1,4 @@
--- The session takes the first message of the client's uplink, where there is one.
+-- The session takes the first message of the client's uplink, if there is one.
 use Rattle.std.proofs.Common.{ap, arith, length, sym, ◌∙◌, true, is_some}
 use Rattle.dp_lists.specs.Numbered.{numbered}
 use Rattle.dp_schedule.specs.declared.action.Action.TheVariants.{Act}
