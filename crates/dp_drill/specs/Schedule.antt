@@ -68,7 +68,8 @@ round r v = let q = r / 3 in round_of (1 + r % 3) (q % 16) (round_brush (q / 16)
 -- so many rounds, from a state of the generator on
 abbrev pub rounds : ℕ → ℕ → List Action
 rounds x zero = []
-rounds x (suc n) = round (drill_number (next x)) (drill_number (next (next x))) ++ rounds (next (next x)) n
+rounds x (suc n) =
+    round (drill_number (next x)) (drill_number (next (next x))) ++ rounds (next (next x)) n
 
 -- ---- the whole schedule
 

@@ -3,8 +3,8 @@
 ghost use Rattle.std.specs.Prelude.{◌≡◌, ◌<◌, ◌^◌, None, IfOk, OnOk};
 ghost use Rattle.std.specs.List.{fold};
 ghost use Rattle.dp_drill.specs.Flow.{first_flow, flow_after, flow_after_all};
-ghost use Rattle.dp_drill.specs.Schedule.{IsBrush, round_brush, dab, first_actions, round, round_of};
-ghost use Rattle.dp_drill.specs.Schedule.{rounds, square};
+ghost use Rattle.dp_drill.specs.Schedule.{IsBrush, dab, first_actions, round, round_brush};
+ghost use Rattle.dp_drill.specs.Schedule.{round_of, rounds, square};
 
 use crate::flow::Flow;
 use crate::numbers::{drill_number, next};

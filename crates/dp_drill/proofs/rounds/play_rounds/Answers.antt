@@ -18,7 +18,7 @@ loop-preserved c =
     (c.drill_number-r.ensures.value ∙ ap drill_number first)
     (c.drill_number-v.ensures.value ∙ ap drill_number second) in record {
       flow = ap (λ y. fold flow_after c.play_round.new.flow (rounds y left)) second
-          ∙ round-more flow c.play_round.new.flow x c.args.count c.loop.counter c.loop-test.true made
-          ∙ c.loop.invariant.flow;
+          ∙ round-more flow c.play_round.new.flow x c.args.count c.loop.counter c.loop-test.true
+          made ∙ c.loop.invariant.flow;
       sure = c.in_ok-play_round.ensures.sure;
     }

@@ -22,4 +22,5 @@ returns c =
     subst (λ (es : List Entry). IfOk c.history.result (λ entries. entries ≡ es))
     (ap (λ (f : Flow). (state_of f.past).live) same
     ∙ ap (λ past. (state_of past).live)
-    (sym (c.drills_need_no_clients.ensures.past c.args.drill.seed c.args.drill.rounds))) c.history.ensures
+    (sym (c.drills_need_no_clients.ensures.past c.args.drill.seed c.args.drill.rounds)))
+    c.history.ensures
