@@ -71,7 +71,7 @@ pub fn run_play<R: Threads + Sync, I: Source, O: Sink, G: Gate, D: Ledger, T: Le
     draws: &mut Steps<D>,
     tiles: &mut Steps<T>,
 ) -> RunEnd
-    ensures leaves { PictureLeaves (play_way playing.at) (I.left input.old) (I.left input.new)
+    ensures leaves { PictureLeaves (play_way playing.entry.at) (I.left input.old) (I.left input.new)
         (O.held output.old) (O.held output.new) result }
     ensures fault { FaultMatchesEnd (I.faults input.old) (I.faults input.new)
         (O.faults output.old) (O.faults output.new) result }

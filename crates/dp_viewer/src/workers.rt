@@ -46,7 +46,7 @@ impl<'a, R: Threads + Sync, G: Gate> WorkersBoard<'a, R, G> {
     /// A board of which so many entries are left to show, or all.
     pub(crate) fn new(rt: &'a R, board: ShownBoard, playing: Playing<'a, G>) -> Self
         ensures board { result.board ≡ board }
-        ensures due { result.due ≡ playing.at }
+        ensures due { result.due ≡ playing.entry.at }
     {
         let Playing { at, workers, gate } = playing;
         WorkersBoard {
@@ -120,7 +120,7 @@ impl<'a, R: Threads + Sync, G: Gate> WorkersBoard<'a, R, G> {
         tiles: &mut Steps<T>,
     ) -> RunEnd
         ensures shown { WritesShown (O.held output.old) (O.held output.new)
-            (O.faults output.old) (O.faults output.new) self.board end result }
+            (O.faults output.old) (O.faults output.new) self.entry.board end result }
         ensures later { O.faults output.old ≤ O.faults output.new }
     {
         let WorkersBoard {

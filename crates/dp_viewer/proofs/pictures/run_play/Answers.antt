@@ -10,8 +10,9 @@ returns-then-reads_to_end-clause-leaves g c =
     (g.I.Source.left read.new.input) (g.O.Sink.held c.args.output.now)
     (g.O.Sink.held c.write.new.output)
     (g.O.Sink.faults c.args.output.now) (g.O.Sink.faults c.write.new.output)
-    read.new.shown.board read.result c.write.result read.ensures.told to_end
-    (read.ensures.to_end to_end) c.write.ensures.shown
+    read.new.shown.board read.result c.write.result
+    (rw (← c.new-shown.ensures.due) read.ensures.told) to_end (read.ensures.to_end to_end)
+    c.write.ensures.shown
 
 pub returns-then-reads_to_end-clause-fault : goal.returns-then-reads_to_end-clause-fault
 returns-then-reads_to_end-clause-fault g c =
@@ -30,5 +31,6 @@ returns-else-reads_to_end-clause-leaves g c =
     nothing_shown (play_way c.args.playing.at) (g.I.Source.left c.args.input.now)
     (g.I.Source.left read.new.input) (g.O.Sink.held c.args.output.now)
     (g.I.Source.faults c.args.input.now) (g.I.Source.faults read.new.input)
-    read.new.shown.board read.result read.ensures.told read.ensures.fault
+    read.new.shown.board read.result (rw (← c.new-shown.ensures.due) read.ensures.told)
+    read.ensures.fault
     (λ to_end. let yes = c.reads_to_end.ensures.no to_end in cc)
