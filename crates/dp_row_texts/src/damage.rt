@@ -135,7 +135,7 @@ pub fn damages_of<'a>(
         damages.push(Damage::Cut(cut))?;
     }
     put_frame_damages(table, frames, &mut damages)?;
-    put_call_damages(table, len, piece, &mut damages)?;
+    put_call_damages(table, len, piece.max(1), &mut damages)?;
     Ok(damages)
 }
 

@@ -282,8 +282,7 @@ pub fn server_answer<'a>(
     };
     let one = talk_of(alloc, frames, placed, damage, piece)?;
     let whole = whole_link(alloc, wires)?;
-    let whole = frames_of(alloc, &whole)?;
-    let two = talk_of(alloc, &whole, others, Damage::Cut(usize::MAX), piece)?;
+    let two = whole_talk(alloc, &whole, others, piece)?;
     let mut past = Past::new(alloc)?;
     if wires.len() < 2 {
         let one = past.serve(alloc, &one)?;
@@ -293,6 +292,17 @@ pub fn server_answer<'a>(
         let (one, two) = past.serve_beside(alloc, &one, &two, wires)?;
         answer_of(alloc, &past, &one, b"link 1 0", &two)
     }
+}
+
+/// What a painter says over a link of these bytes that is whole.
+fn whole_talk<'a>(
+    alloc: Global,
+    bytes: &'a [u8],
+    placed: &'a [Vec<u8>],
+    piece: usize,
+) -> Result<Talk<'a>, AllocError> {
+    let frames = frames_of(alloc, bytes)?;
+    talk_of(alloc, &frames, placed, Damage::Cut(usize::MAX), piece)
 }
 
 /// The bytes of the link that is whole: the last one.
