@@ -20,6 +20,9 @@ const RECORDING: &[u8] = b"DPREC\0\0\x16{\"profile\":\"dp-int-2\"}\
     \0\x05\x82\x01\x01\x01\0\0\0\
     \0\x17\x89\x01\x01\x01\x01\0\0\0\0\0\0\0\0\0\0\0\x40\0\0\0\x80\xff\xff\0\0";
 
+/// The bytes of a red pixel.
+const RED: [u8; 3] = [255, 0, 0];
+
 /// The head of its picture.
 const HEAD: &[u8] = b"P6\n64 128\n255\n";
 
@@ -53,7 +56,7 @@ fn check_picture(rt: &impl Abort, bytes: &[u8]) {
     assert_eq!(rt; head, HEAD);
     assert_eq!(rt; pixels.len(), 64 * 128 * 3);
     for pixel in pixels.chunks(3) {
-        assert_eq!(rt; pixel, &[255, 0, 0]);
+        assert_eq!(rt; pixel, RED.as_slice());
     }
 }
 
