@@ -41,7 +41,7 @@ pub fn put_kept(keeper: &MemKeeper, out: &mut Vec<u8>) -> Result<(), AllocError>
     Ok(())
 }
 
-/// Adds how often the gate of the server's workers was passed, if it was.
+/// Adds how often the gate was passed, if it was.
 pub fn put_passes(passes: u64, out: &mut Vec<u8>) -> Result<(), AllocError> {
     if passes == 0 {
         return Ok(());

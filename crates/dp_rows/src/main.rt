@@ -23,9 +23,9 @@
 //! - Another line is one of the row's input. `|LINE` is one that would be read as something else.
 //!
 //! For each row it prints its first line, the status, the output, the line on diag after `! `, and
-//! what was sent on each link after `sent `. Of a server it prints a line for each link, each row
-//! of the store after `kept `, and how often its workers passed the gate. A picture of bytes is
-//! printed as its head and its pixels, each with how often it stands there. A backslash ends a text
+//! what was sent on each link after `sent `. Of a server it prints a line for each link, and each
+//! row of the store after `kept `. `passed N` says how often the gate was passed, if it was: by a
+//! server's workers, or by jobs of `play` and `drill`. A picture of bytes is printed as its head and its pixels, each with how often it stands there. A backslash ends a text
 //! that has no newline at its end. What a length of pieces gives otherwise than the first one
 //! follows after `differs`. If there is a table, the row runs again with the first link cut
 //! after each byte, with each of its frames replaced, and with each of its reads and writes
