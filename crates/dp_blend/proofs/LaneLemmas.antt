@@ -31,7 +31,7 @@ halves_fit [] f = tt
 halves_fit (v ∷ vs) [] = tt
 halves_fit (v ∷ vs) (f ∷ fs) = (record { fits = omega arith }, halves_fit vs fs)
 
--- where the factor is one the product is the value, and else the upper half of twice the product
+-- if the factor is one the product is the value, and else the upper half of twice the product
 product_is : (v f : ℕ) → f ≤ 32768 → cond (f == 32768) v (v * ((f + f) % 65536) / 65536) ≡ mul v f
 product_is v f h =
     elim (eqb_tells f 32768) [
@@ -54,7 +54,7 @@ products_is (v ∷ vs) (f ∷ fs) h =
     let rest = products_is vs fs h.1 in
     cc
 
--- where the factor is below one the product is the upper half of twice the product
+-- if the factor is below one the product is the upper half of twice the product
 lesser_is : (v f : ℕ) → f < 32768 → v * ((f + f) % 65536) / 65536 ≡ mul v f
 lesser_is v f h =
     let twice : (f + f) % 65536 ≡ f + f = omega arith in

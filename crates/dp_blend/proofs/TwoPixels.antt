@@ -171,7 +171,7 @@ chosen m n p q x y = pick (m == 0) (n == 0)
     pick false true = refl
     pick false false = refl
 
--- and so they are lanes of pixels, where both vectors are
+-- and so they are lanes of pixels, if both vectors are
 pub are_kept : (m n : ℕ) (d e : Channels) → IsPixel d → IsPixel e
     → {v masks old others : List ℕ} → masks ≡ fours m n → old ≡ lanes d e → ArePixels others
     → v ≡ sel_l (map (λ k. k == 0) masks) old others → ArePixels v

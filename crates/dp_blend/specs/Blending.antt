@@ -59,7 +59,7 @@ blend mode s d =
       a = alpha_blended mode s.a d.a;
     }
 
--- the pixel d after the source through a mask: where the mask is 0 it stays, else the faded source
+-- the pixel d after the source through a mask: if the mask is 0 it stays, else the faded source
 -- is blended with it
 abbrev pub masked : Mode → Channels → ℕ → Channels → Channels
 masked mode src m d = if m == 0 then d else blend mode (fade src m) d

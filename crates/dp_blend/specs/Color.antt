@@ -2,7 +2,7 @@
 -- stands for one.
 use Rattle.std.specs.Prelude.{ℕ, ◌+◌, ◌*◌, ◌/◌, ◌%◌, ◌≤◌}
 
--- a premultiplied colour: its channels and its alpha, where 32768 is one
+-- a premultiplied colour: its channels and its alpha, if 32768 is one
 pub record Channels : Type 0 where
   pub r : ℕ
   pub g : ℕ

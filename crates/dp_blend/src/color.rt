@@ -56,7 +56,7 @@ impl Pixel {
         [Pixel::CLEAR, Pixel::WHITE]
     }
 
-    /// The pixel with these channels and this alpha. `None` exactly where a channel is above alpha,
+    /// The pixel with these channels and this alpha. `None` exactly if a channel is above alpha,
     /// or alpha above 32768.
     pub fn new(r: u16, g: u16, b: u16, a: u16) -> Option<Pixel>
         ensures valid { IsSome result ↔ IsPixel (record { r = r; g = g; b = b; a = a }) }

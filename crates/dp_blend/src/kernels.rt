@@ -1,6 +1,6 @@
 //! The modes of blending, two pixels at a time.
 //!
-//! In a product the factor is what a row has throughout, where there is such a number: so what
+//! In a product the factor is what a row has throughout, if there is such a number: so what
 //! depends on it alone is worked out once for the row.
 //!
 //! The rule: docs/protocol.md, "Numbers and blending".

@@ -78,7 +78,7 @@ pub(crate) fn with_alphas(channels: u16x8, alphas: u16x8) -> u16x8
     channels.shuffle(alphas, [0, 1, 2, 11, 4, 5, 6, 15])
 }
 
-/// The lanes of the first vector where the mask is 0, and else those of the second.
+/// The lanes of the first vector if the mask is 0, and else those of the second.
 #[inline(always)]
 pub(crate) fn kept_where_zero(masks: u16x8, kept: u16x8, others: u16x8) -> u16x8
     ensures { result ≡ sel_l (map (λ m. m == 0) masks) kept others }
@@ -94,7 +94,7 @@ pub(crate) fn smaller_of(values: u16x8, limits: u16x8) -> u16x8
     values.simd_min(limits)
 }
 
-/// The sums of the lanes, or what fits a lane where a sum doesn't.
+/// The sums of the lanes, or what fits a lane if a sum doesn't.
 #[inline(always)]
 pub(crate) fn capped_sums(values: u16x8, others: u16x8) -> u16x8
     ensures { result ≡ zip2 (λ v w. min (v + w) 65535) values others }

@@ -24,7 +24,7 @@ use crate::modes::Mode;
 const FEW: usize = 16;
 
 /// Blends the source with each pixel of the row, faded by the mask at its place: 32768 blends all
-/// of it, and where the mask is 0 the pixel stays.
+/// of it, and if the mask is 0 the pixel stays.
 pub fn row_blend(mode: Mode, src: Pixel, mask: &[u16], row: &mut [Pixel])
     requires same_length { length mask.now ≡ length row.old }
     requires within { All (λ m. m ≤ 32768) mask.now }

@@ -80,7 +80,7 @@ fn four_on_white(pixels: &[Pixel], bytes: &mut [[u8; 3]], at: usize)
 
 /// The bytes of two pixels that are laid on white, each in a lane. The lane of an alpha has 255.
 ///
-/// A byte is the upper half of 510 times the channel, and one more where the lower half is at least
+/// A byte is the upper half of 510 times the channel, and one more if the lower half is at least
 /// a half of one.
 #[inline(always)]
 fn lanes_on_white(values: u16x8) -> u16x8

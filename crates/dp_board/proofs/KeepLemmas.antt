@@ -104,7 +104,7 @@ begins-without_last w (x ∷ before) (first ∷ done) group is reached out =
     let same : x ≡ first = cc in
     ap (is_eligible w) same ∙ out
 
--- what holds of the first that is kept, where some are left out
+-- what holds of the first that is kept, if some are left out
 guarded-by : (v w : Window) (left_out kept more : List ℕ)
     → (BeginsOutOfReach v kept → BeginsOutOfReach w more) → IsGuarded v left_out kept
     → IsGuarded w left_out more

@@ -194,7 +194,7 @@ done-push depth user acts a h b is =
     ∙ ap (λ c. is_among (if c then groups_after (strokes depth user acts) a.act
     else (strokes depth user acts).groups).done h) is
 
--- where an act moves no group, what was joined stays drawn, or not
+-- if an act moves no group, what was joined stays drawn, or not
 drawn_in-unmoved : {Op : Type 0} → (depth : ℕ) (acts : List (UserAct Op)) (a : UserAct Op)
     (join : Join) → moved_by depth acts a ≡ None → IsEarlier (length acts) join
     → drawn_in depth (acts ++ a ∷ []) join ≡ drawn_in depth acts join
@@ -209,7 +209,7 @@ drawn_in-unmoved depth acts a (InGroup user group) none before =
       | inr differ ↦ done-push depth user acts a group false (ne_eqb (concerned a) user differ)
     ]
 
--- the flag where the user and the group are those that were asked for
+-- the flag if the user and the group are those that were asked for
 flag_with-here : (user group : ℕ) (flag old : Bool) (u g : ℕ) → u ≡ user → g ≡ group
     → flag_with user group flag (InGroup u g) old ≡ flag
 flag_with-here user group flag old u g same here =
@@ -312,7 +312,7 @@ flags-push depth acts a =
     ∙ ap (λ b. map (drawn_in depth all) (joins depth acts) ++ b ∷ [])
     (drawn_in-join_of depth all acts a.user a.act ∙ last_flag depth acts a.user a.act)
 
--- where an act moves no group the flags stay, and a command that comes last is drawn
+-- if an act moves no group the flags stay, and a command that comes last is drawn
 pub flags_go_on : (Op : Type 0) → FlagsGoOn Op
 flags_go_on Op depth acts a none =
     flags-push depth acts a

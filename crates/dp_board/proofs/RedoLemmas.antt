@@ -56,14 +56,14 @@ no_place : (b : Bool) (i : ℕ) → cond b (Some i) None ≡ None → b ≡ fals
 no_place true i none = cc
 no_place false i none = refl
 
--- where none passes there is no place
+-- if none passes there is no place
 past : (test : ℕ → Bool) (xs : List ℕ) → position test xs ≡ None
     → length xs ≤ position_or_len test xs
 past test xs none =
     let beyond = no_place (nat_lt (position_or_len test xs) (length xs)) (position_or_len test xs)
     none in omega (arith, ltb-false)
 
--- where none passes nothing comes back
+-- if none passes nothing comes back
 pub redo-None : (test : ℕ → Bool) (g : Groups) → position test g.undone ≡ None
     → g ≡ redo (find test g.undone) g
 redo-None test g none =

@@ -173,7 +173,7 @@ is_among-same xs ys h same = by_answer (is_among ys h) refl
     by_answer true is = is_among-some xs h (omega (arith, times-some ys h is, same))
     by_answer false is = is_among-none xs h (omega (arith, times-none ys h is, same))
 
--- where an act moves no group, those that were opened before stay done, or not
+-- if an act moves no group, those that were opened before stay done, or not
 pub done-unmoved : {Op : Type 0} → (s : Strokes) (act : Act Op) (h : ℕ) → h < s.position
     → moved s act ≡ None → is_among (groups_after s act).done h ≡ is_among s.groups.done h
 done-unmoved s Point h before none =

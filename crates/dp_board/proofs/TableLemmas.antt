@@ -72,7 +72,7 @@ is_join_drawn-join_in depth all table done user None are have small = refl
 is_join_drawn-join_in depth all table done user (Some group) are have small =
     have user small group ∙ ap (λ s. is_among s.groups.done group) (are user small)
 
--- what an act joined is drawn where the act is a command that is drawn
+-- what an act joined is drawn if the act is a command that is drawn
 is_join_drawn-join_of : {Op : Type 0} → (depth : ℕ) (all before : List (UserAct Op))
     (table : Table) (done : List (List ℕ)) (user : ℕ) (act : Act Op)
     → HasStrokes depth all table → HaveDone table.users done → user < 256

@@ -9,7 +9,7 @@ use Rattle.std.proofs.lemmas.List.{take_more, take_all, take-append-drop}
 use Rattle.std.proofs.lemmas.Option.{slice_get_within, get_or_from_slice_get}
 use Rattle.dp_board.specs.Strokes.{is_among, last_of, without_last, without}
 
--- 1 where a test passes
+-- 1 if a test passes
 abbrev pub one : Bool → ℕ
 one true = 1
 one false = 0

@@ -1,4 +1,4 @@
--- The window has the last Points of a history, where no depth was set, and the depth that was set
+-- The window has the last Points of a history, if no depth was set, and the depth that was set
 -- last.
 use Rattle.std.proofs.Common.{◌≡◌, ℕ, ◌+◌, ◌-◌, List, [], ◌∷◌, ◌++◌, length, take, drop}
 use Rattle.std.proofs.Common.{Some, None, unwrap_or, refl, ap, sym, ◌∙◌}

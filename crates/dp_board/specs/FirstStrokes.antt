@@ -5,7 +5,7 @@ use Rattle.dp_board.specs.Strokes.{Groups, Strokes, no_groups, last_few, concern
 use Rattle.dp_board.specs.Strokes.{strokes}
 use Rattle.dp_board.specs.Laws.{points_from, HasNoDepth}
 
--- a user's strokes after the history `before`, where the user has these groups: a group is eligible
+-- a user's strokes after the history `before`, if the user has these groups: a group is eligible
 -- while its Point is among the last `depth` Points, of all users, of the history so far
 abbrev pub first_reach : {Op : Type 0} → ℕ → List (UserAct Op) → Groups → Strokes
 first_reach depth before g = record {

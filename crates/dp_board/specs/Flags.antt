@@ -10,7 +10,7 @@ use Rattle.dp_board.specs.Strokes.{is_among, last_of, strokes}
 abbrev pub joined : {Op : Type 0} → ℕ → ℕ → List (UserAct Op) → Option ℕ
 joined depth user before = last_of (strokes depth user before).groups.done
 
--- the commands of a group are drawn: those of group 0 are, and those of another where it is done
+-- the commands of a group are drawn: those of group 0 are, and those of another if it is done
 abbrev pub is_group_drawn : List ℕ → Option ℕ → Bool
 is_group_drawn done None = true
 is_group_drawn done (Some group) = is_among done group

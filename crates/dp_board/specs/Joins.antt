@@ -8,12 +8,12 @@ use Rattle.dp_board.specs.declared.join.Join.{Join}
 use Rattle.dp_board.specs.declared.join.Join.TheVariants.{NoCommand, GroupZero, InGroup}
 use Rattle.dp_board.specs.Strokes.{Groups, is_among, last_of, strokes}
 
--- what a command of a user joins, where `group` is the last done one
+-- what a command of a user joins, if `group` is the last done one
 abbrev pub join_in : ℕ → Option ℕ → Join
 join_in user None = GroupZero
 join_in user (Some group) = InGroup user group
 
--- what an act of a user joins, where `g` are the user's groups
+-- what an act of a user joins, if `g` are the user's groups
 abbrev pub join_of : {Op : Type 0} → ℕ → Groups → Act Op → Join
 join_of user g (Draw op) = join_in user (last_of g.done)
 join_of user g act = NoCommand

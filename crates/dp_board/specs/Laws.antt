@@ -28,7 +28,7 @@ abbrev pub EachActHasAFlag : Type 0 → Type 0
 EachActHasAFlag Op =
     (depth : ℕ) (acts : List (UserAct Op)) → length (drawn_flags depth acts) ≡ length acts
 
--- the position, where the act is a Point
+-- the position, if the act is a Point
 abbrev pub point_at : {Op : Type 0} → ℕ → Act Op → List ℕ
 point_at position Point = position ∷ []
 point_at position act = []
@@ -58,7 +58,7 @@ HasNoDepth acts = AllByRecursion (λ a. depth_in a.act ≡ None) acts
 abbrev pub depth_after : {Op : Type 0} → ℕ → List (UserAct Op) → ℕ
 depth_after depth acts = fold (λ set a. unwrap_or (depth_in a.act) set) depth acts
 
--- where no depth was set, the position and the window of a user's strokes are those of the history
+-- if no depth was set, the position and the window of a user's strokes are those of the history
 abbrev pub WindowIsOfLastPoints : Type 0 → Type 0
 WindowIsOfLastPoints Op =
     (depth user : ℕ) (acts : List (UserAct Op)) → HasNoDepth acts

@@ -28,14 +28,14 @@ flag_with user group flag GroupZero old = old
 flag_with user group flag (InGroup other place) old =
     if (other == user) && (place == group) then flag else old
 
--- the flags of acts, where those in the group `group` of the user get the flag `flag`
+-- the flags of acts, if those in the group `group` of the user get the flag `flag`
 abbrev pub flags_with : ℕ → ℕ → Bool → List Join → List Bool → List Bool
 flags_with user group flag [] olds = []
 flags_with user group flag (join ∷ joins) [] = []
 flags_with user group flag (join ∷ joins) (old ∷ olds) =
     flag_with user group flag join old ∷ flags_with user group flag joins olds
 
--- where an act moves no group the flags stay, and a command that comes last is drawn
+-- if an act moves no group the flags stay, and a command that comes last is drawn
 abbrev pub FlagsGoOn : Type 0 → Type 0
 FlagsGoOn Op =
     (depth : ℕ) (acts : List (UserAct Op)) (a : UserAct Op) → moved_by depth acts a ≡ None

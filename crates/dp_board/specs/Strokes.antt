@@ -35,7 +35,7 @@ no_groups = record { done = []; undone = [] }
 abbrev pub no_strokes : ℕ → Strokes
 no_strokes depth = record { position = 0; window = empty_window depth; groups = no_groups }
 
--- the last n, or all where there are fewer
+-- the last n, or all if there are fewer
 abbrev pub last_few : {X : Type 0} → ℕ → List X → List X
 last_few n xs = drop (length xs - n) xs
 
@@ -75,7 +75,7 @@ without group [] = []
 without group (other ∷ groups) =
     if other == group then groups else other ∷ without group groups
 
--- the group, where there is one and it is eligible
+-- the group, if there is one and it is eligible
 abbrev pub where_eligible : Window → Option ℕ → Option ℕ
 where_eligible window None = None
 where_eligible window (Some group) = if is_eligible window group then Some group else None

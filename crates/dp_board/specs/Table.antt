@@ -51,7 +51,7 @@ moved_in table a = moved (strokes_of table (concerned a)) a.act
 abbrev pub joined_in : {Op : Type 0} → Table → UserAct Op → Join
 joined_in table a = join_of a.user (groups_of table.users a.user) a.act
 
--- the position of the oldest Point in reach, or of the next act where there is none
+-- the position of the oldest Point in reach, or of the next act if there is none
 abbrev pub oldest_in : Table → ℕ
 oldest_in table = fold min table.position table.window.points
 
@@ -98,7 +98,7 @@ abbrev pub BeginsOutOfReach : Window → List ℕ → Type 0
 BeginsOutOfReach w [] = ⊥
 BeginsOutOfReach w (group ∷ done) = is_eligible w group ≡ false
 
--- where groups are left out, the first that is kept is out of reach
+-- if groups are left out, the first that is kept is out of reach
 abbrev pub IsGuarded : Window → List ℕ → List ℕ → Type 0
 IsGuarded w [] kept = Unit {0}
 IsGuarded w (group ∷ left_out) kept = BeginsOutOfReach w kept

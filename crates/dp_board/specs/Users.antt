@@ -2,7 +2,7 @@
 use Rattle.std.specs.Prelude.{◌≡◌, ℕ, ◌<◌, List, [], slice_index_or}
 use Rattle.dp_board.specs.Strokes.{Groups, no_groups, is_among}
 
--- the groups of a user, where `users` has those of each
+-- the groups of a user, if `users` has those of each
 abbrev pub groups_of : List Groups → ℕ → Groups
 groups_of users user = slice_index_or users user no_groups
 

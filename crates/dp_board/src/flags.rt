@@ -10,7 +10,7 @@ use crate::sorted::SortedGroups;
 use crate::table::StrokeTable;
 use std::alloc::{AllocError, Global};
 
-/// What joined so is drawn, where `done` has the done groups of each user at the end.
+/// What joined so is drawn, if `done` has the done groups of each user at the end.
 fn is_drawn(done: &[SortedGroups], join: Join) -> bool
     requires { length done.now ≡ 256 }
     ensures { result ≡ is_join_drawn done.now join }
@@ -22,7 +22,7 @@ fn is_drawn(done: &[SortedGroups], join: Join) -> bool
     }
 }
 
-/// Whether what each act joined is drawn, where `done` has the done groups of each user at the end.
+/// Whether what each act joined is drawn, if `done` has the done groups of each user at the end.
 fn flags_of(alloc: Global, done: &[SortedGroups], joins: &[Join]) -> Result<Vec<bool>, AllocError>
     requires { length done.now ≡ 256 }
     ensures { IfOk result (λ flags. flags.items ≡ map (is_join_drawn done.now) joins.now) }

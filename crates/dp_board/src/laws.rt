@@ -51,7 +51,7 @@ pub fn others_do_not_count<Op>()
     ensures { OthersDoNotCount Op }
 {}
 
-/// The beginning of a history, where it has no point, is drawn whole. What comes after it is drawn
+/// The beginning of a history, if it has no point, is drawn whole. What comes after it is drawn
 /// as if it stood alone, from the depth that the beginning leaves.
 pub fn prefixes_without_points<Op>()
     ensures { PrefixesWithoutPoints Op }
@@ -65,7 +65,7 @@ pub fn groups_are_points<Op>()
 {}
 
 /// The flags of a history with one more act. Where the act moves no group they stay, and the act
-/// has the flag true where it is a command. Where it moves one, the flags of that group change and
+/// has the flag true if it is a command. Where it moves one, the flags of that group change and
 /// no others, and none up to the point of the group.
 pub fn flags_go_on<Op>()
     ensures unmoved { FlagsGoOn Op }

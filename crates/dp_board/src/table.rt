@@ -93,7 +93,7 @@ pub fn concerned<Op>(act: &UserAct<Op>) -> u8
 }
 
 impl StrokeTable {
-    /// The strokes before the first act, where undo and redo reach the last `depth` points.
+    /// The strokes before the first act, if undo and redo reach the last `depth` points.
     pub fn new(alloc: Global, depth: u32) -> Result<Self, AllocError>
         ensures count { IfOk result (λ table. length table.users ≡ 256) }
         ensures empty { IfOk result (HasNoStrokes depth) }
@@ -112,7 +112,7 @@ impl StrokeTable {
         self.position
     }
 
-    /// The position of the oldest point in reach, or of the next act where none is.
+    /// The position of the oldest point in reach, or of the next act if none is.
     #[tactic(auto, using(crate::proofs::TableSteps::fold_min_le))]
     pub fn oldest(&self) -> usize
         ensures value { result ≡ oldest_in self.now }

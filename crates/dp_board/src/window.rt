@@ -56,7 +56,7 @@ impl PointWindow {
         self.points.contains(&group)
     }
 
-    /// The oldest point in reach, or `end` where none is before it.
+    /// The oldest point in reach, or `end` if none is before it.
     pub(crate) fn oldest(&self, end: usize) -> usize
         ensures { result ≡ fold min end self.now.points }
     {

@@ -51,7 +51,7 @@ fn is_one<L: Ledger>(_steps: &Steps<L>)
     requires { _steps.now ≡ 1 }
 {}
 
-/// The pixel's letter: R for red, a dot where it is clear.
+/// The pixel's letter: R for red, a dot if it is clear.
 fn letter(pixel: Pixel) -> char {
     match pixel {
         pixel if pixel == Pixel::CLEAR => '.',

@@ -141,7 +141,7 @@ follows_fed M bytes more entries count old new held at h =
       at = at ∙ h.at;
     }
 
--- where no whole frame is held, the bytes carry the entries
+-- if no whole frame is held, the bytes carry the entries
 pub follows_tells : {M : ℕ → FrameParts → Entry → Type 0} {bytes : List ℕ} {entries : List Entry}
     {count : ℕ} {stream : Stream}
     → HoldsNoFrame stream.held → Follows M bytes entries count stream

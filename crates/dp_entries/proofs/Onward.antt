@@ -73,7 +73,7 @@ short_rest bytes small none = by_length (cases_lt (length bytes) 65539)
     by_length (inl short) = short
     by_length (inr long) = absurd (long_holds bytes small long none)
 
--- what is held where no whole frame is, and a piece more
+-- what is held if no whole frame is, and a piece more
 pub few_held : (at : ℕ) (held : List ℕ) → AreBytes held → HoldsNoFrame held
     → at + length held ≤ at + most_in_piece
 few_held at held small none = omega (arith, short_rest held small none)

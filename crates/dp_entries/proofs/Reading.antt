@@ -72,7 +72,7 @@ module _ {M : ℕ → FrameParts → Entry → Type 0} {input : List ℕ} {left 
       ap (drop r.first) (append_assoc h.head h.earlier h.piece)
       ∙ drop_prefix h.head (h.earlier ++ h.piece) r.first h.place
 
-  -- where no whole frame is held, they hold no cause to end
+  -- if no whole frame is held, they hold no cause to end
   no_cause : HoldsNoFrame r.stream.held
       → HoldsNoCause M r.first r.limit ((h.head ++ h.earlier) ++ h.piece)
   no_cause none = record {
@@ -88,7 +88,7 @@ module _ {M : ℕ → FrameParts → Entry → Type 0} {input : List ℕ} {left 
   took_piece : TookNoCause M r.first r.limit 4096 input left
   took_piece = took_last (HoldsNoCause M r.first r.limit) h.took h.quiet
 
-  -- where no more was taken than counts, nothing was cut
+  -- if no more was taken than counts, nothing was cut
   none_cut : ¬ IsTrue r.over
       → TookPieces r.limit (Some input) left (h.head ++ h.earlier) h.piece []
   none_cut not_over =

@@ -21,7 +21,7 @@ end_of (BadMessage cause n) = run.BadMessage n
 end_of Long = run.Long
 end_of Memory = run.Memory
 
--- how reading ends where the frame at this byte gives no entry
+-- how reading ends if the frame at this byte gives no entry
 abbrev pub refused_at : {C : Type 0} → ℕ → Refusal C → ReadEnd C
 refused_at at (refusal.Cause cause) = BadMessage cause at
 refused_at at refusal.Memory = Memory

@@ -1,5 +1,5 @@
 -- What a reader gives from where a stream stands on: of the bytes that the stream holds, and of
--- those that are read after them, also where the source's bytes aren't known.
+-- those that are read after them, also if the source's bytes aren't known.
 use Rattle.std.specs.Prelude.{◌≡◌, ℕ, ◌+◌, ◌-◌, ◌<◌, ◌≤◌, ◌↔◌, IsTrue, List, ◌++◌, length, take}
 use Rattle.std.specs.Prelude.{Option, slice_index, ⊤}
 use Rattle.std.specs.List.{AllByRecursion, flat_map}
@@ -31,7 +31,7 @@ AreBytes bytes = (k : ℕ) → slice_index bytes k < 256
 abbrev pub most_in_piece : ℕ
 most_in_piece = 65538 + 4096
 
--- Where no whole frame was held, reading went no further than to the end of the piece with which
+-- If no whole frame was held, reading went no further than to the end of the piece with which
 -- the first one was whole.
 abbrev pub ReachesFew : Stream → Stream → Type 0
 ReachesFew old new = AreBytes old.held → HoldsNoFrame old.held
@@ -82,7 +82,7 @@ pub record BeginsBad {C : Type 0} (IsCause : ℕ → FrameParts → C → Type 0
 abbrev pub RestsWhole : ℕ → Stream → List ℕ → List ℕ → Type 0
 RestsWhole limit start read rest = HoldsNoFrame rest × (count_from start read ≤ limit)
 
--- By how reading ended: the rest holds no whole frame, where all bytes count or where others were
+-- By how reading ended: the rest holds no whole frame, if all bytes count or if others were
 -- read; or a frame may not stand, and begins at byte n of the stream.
 abbrev pub RestsBy : {C : Type 0} → (ℕ → FrameParts → C → Type 0) → ℕ → Stream → ℕ → List ℕ
     → ReadEnd C → List ℕ → List ℕ → Type 0

@@ -66,7 +66,7 @@ EndsReading MayStand IsCause first limit input left entries Long =
     × TookNoCause MayStand first limit 4096 input left
 EndsReading MayStand IsCause first limit input left entries Memory = ⊤
 
--- the count of the input's faults where reading ended so: a fault raised it, and else it stays
+-- the count of the input's faults if reading ended so: a fault raised it, and else it stays
 abbrev pub FaultMatchesReadEnd : {C : Type 0} → ℕ → ℕ → ReadEnd C → Type 0
 FaultMatchesReadEnd before now ReadFault = Rose before now
 FaultMatchesReadEnd before now (Truncated n) = now ≡ before
@@ -74,7 +74,7 @@ FaultMatchesReadEnd before now (BadMessage cause n) = now ≡ before
 FaultMatchesReadEnd before now Long = now ≡ before
 FaultMatchesReadEnd before now Memory = now ≡ before
 
--- the input is at its end where reading it ended inside a frame
+-- the input is at its end if reading it ended inside a frame
 abbrev pub EndsWithInput : {C : Type 0} → Option (List ℕ) → ReadEnd C → Type 0
 EndsWithInput left (Truncated n) = IsAtEnd left
 EndsWithInput left ReadFault = ⊤

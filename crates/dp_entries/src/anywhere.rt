@@ -43,7 +43,7 @@ impl Standing for Anywhere {
 }
 
 /// The entry of a frame that carries a fill. `decode` gives the same; but sessions have most of
-/// these, and this entry is made at once, where `decode` moves it from answer to answer.
+/// these, and this entry is made at once, if `decode` moves it from answer to answer.
 #[inline(always)]
 fn fill_of(frame: &FrameView<'_>) -> Option<Entry>
     ensures { IfSome result (Carries frame.now) }

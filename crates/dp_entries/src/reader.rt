@@ -113,22 +113,22 @@ impl<S: Standing> EntryReader<S> {
         self.splitter
     }
 
-    /// Whether a whole frame is held: where one is, the next entry comes without a read.
+    /// Whether a whole frame is held: if one is, the next entry comes without a read.
     pub fn holds_frame(&self) -> bool
         ensures { IsTrue result ↔ (¬ HoldsNoFrame self.now.stream.held) }
     {
         self.splitter.peek_frame().is_some()
     }
 
-    /// Gives the next entry; `None` where the input ends after a whole frame. It reads pieces of at
-    /// most 4096 bytes, and only where no whole frame is held. After `None` and after an error it
+    /// Gives the next entry; `None` if the input ends after a whole frame. It reads pieces of at
+    /// most 4096 bytes, and only if no whole frame is held. After `None` and after an error it
     /// has ended: it gives `None` from then on, and reads nothing.
     ///
     /// # Errors
     ///
-    /// `ReadFault` where the input failed, `Truncated` where it ends inside a frame, `BadMessage`
-    /// at the first frame that may not stand, `Long` where more bytes than count were taken, and
-    /// `Memory` where memory ran out.
+    /// `ReadFault` if the input failed, `Truncated` if it ends inside a frame, `BadMessage`
+    /// at the first frame that may not stand, `Long` if more bytes than count were taken, and
+    /// `Memory` if memory ran out.
     #[inline(always)]
     pub fn next<I: Source>(
         &mut self,
@@ -145,7 +145,7 @@ impl<S: Standing> EntryReader<S> {
         ensures within { HoldsWithin self.new }
         ensures source { SameSource self.old self.new }
 
-        // Where there is none, the input came to its end, or reading it ended so.
+        // If there is none, the input came to its end, or reading it ended so.
         ensures at_end { ¬ IsTrue self.old.ended → IfOk result (λ next.
             IfNone next (IsAtEnd (I.left input.new))) }
         ensures done { ¬ IsTrue self.old.ended → IfOk result (λ next. IfNone next
@@ -181,7 +181,7 @@ impl<S: Standing> EntryReader<S> {
         ensures fused { IsTrue self.old.ended → IsOkAnd result (λ next. (next ≡ None)
             × (self.new ≡ self.old) × (I.left input.new ≡ I.left input.old)) }
 
-        // A fault is answered where the count of the input's faults rose, and else it stays.
+        // A fault is answered if the count of the input's faults rose, and else it stays.
         ensures kept { OnOk result (I.faults input.new ≡ I.faults input.old) }
         ensures fault { IfErr result
             (FaultMatchesReadEnd (I.faults input.old) (I.faults input.new)) }
@@ -238,13 +238,13 @@ impl<S: Standing> EntryReader<S> {
         }
     }
 
-    /// Reads until a whole frame is held, and says whether one is; `false` where the input ends
-    /// after a whole frame. It reads pieces of at most 4096 bytes, and only where none is held.
+    /// Reads until a whole frame is held, and says whether one is; `false` if the input ends
+    /// after a whole frame. It reads pieces of at most 4096 bytes, and only if none is held.
     ///
     /// # Errors
     ///
-    /// `ReadFault` where the input failed, `Truncated` where it ends inside a frame, `Long` where
-    /// more bytes than count were taken, and `Memory` where memory ran out. It reads even where
+    /// `ReadFault` if the input failed, `Truncated` if it ends inside a frame, `Long` if
+    /// more bytes than count were taken, and `Memory` if memory ran out. It reads even if
     /// `next` has ended.
     #[inline(always)]
     pub fn fill<I: Source>(&mut self, input: &mut I) -> Result<bool, ReadEnd<S::Cause>>
@@ -259,7 +259,7 @@ impl<S: Standing> EntryReader<S> {
         ensures idle { ¬ HoldsNoFrame self.old.stream.held
             → (self.new ≡ self.old) × (I.left input.new ≡ I.left input.old) }
 
-        // Where there is none, the input came to its end, or reading it ended so.
+        // If there is none, the input came to its end, or reading it ended so.
         ensures at_end { IfOk result (λ more. ¬ IsTrue more → IsAtEnd (I.left input.new)) }
         ensures done { IfOk result (λ more. ¬ IsTrue more → (bytes : List ℕ) (entries : List Item)
             → HasRead S.may_stand bytes (I.left input.old) entries self.old
@@ -288,7 +288,7 @@ impl<S: Standing> EntryReader<S> {
             self.new.stream.held end) }
         ensures few { ReachesFew self.old.stream self.new.stream }
 
-        // A fault is answered where the count of the input's faults rose, and else it stays.
+        // A fault is answered if the count of the input's faults rose, and else it stays.
         ensures kept { OnOk result (I.faults input.new ≡ I.faults input.old) }
         ensures fault { IfErr result
             (FaultMatchesReadEnd (I.faults input.old) (I.faults input.new)) }
@@ -305,11 +305,11 @@ impl<S: Standing> EntryReader<S> {
         }
     }
 
-    /// Gives the entry of the first frame that is held, even where `next` has ended.
+    /// Gives the entry of the first frame that is held, even if `next` has ended.
     ///
     /// # Errors
     ///
-    /// `BadMessage` where the frame may not stand, and `Memory` where memory ran out. Nothing has
+    /// `BadMessage` if the frame may not stand, and `Memory` if memory ran out. Nothing has
     /// changed then.
     #[inline(always)]
     pub fn take(&mut self, alloc: Global) -> Result<Entry, ReadEnd<S::Cause>>
@@ -436,7 +436,7 @@ impl<S: Standing> EntryReader<S> {
         (self.limit - self.first - self.splitter.at()) as usize - self.splitter.rest_len()
     }
 
-    /// Where nothing is left of the input and no whole frame is held, no byte is held.
+    /// If nothing is left of the input and no whole frame is held, no byte is held.
     fn check_end(&self) -> Result<(), ReadEnd<S::Cause>>
         requires none { HoldsNoFrame self.now.stream.held }
         requires not_over { ¬ IsTrue self.now.over }
@@ -470,7 +470,7 @@ impl<S: Standing> EntryReader<S> {
     }
 }
 
-/// How reading ends where the frame at this byte gives no entry.
+/// How reading ends if the frame at this byte gives no entry.
 fn end_of_refusal<C>(at: u64, why: Refusal<C>) -> ReadEnd<C>
     ensures { result ≡ refused_at at why }
 {

@@ -25,7 +25,7 @@ pub trait Standing {
     ///
     /// # Errors
     ///
-    /// The cause where it may not stand; `Memory` where memory runs out.
+    /// The cause if it may not stand; `Memory` if memory runs out.
     fn judge(
         alloc: Global,
         before: u64,
@@ -34,7 +34,7 @@ pub trait Standing {
         ensures stands { IfOk result (may_stand before frame.now) }
         ensures refused { IfErr result (IfCause (is_cause before frame.now)) };
 
-    /// A frame may stand for at most one entry, and for none where there is a cause. It does
+    /// A frame may stand for at most one entry, and for none if there is a cause. It does
     /// nothing: its contract is the law.
     fn one_standing()
         ensures one { (before : ℕ) (frame : FrameParts) (e f : Item)

@@ -19,11 +19,11 @@ pub struct Stop<C> {
 }
 
 /// Takes the first frame that is held, and gives the entry that it stands for with so many frames
-/// before it; `None` where no whole frame is held.
+/// before it; `None` if no whole frame is held.
 ///
 /// # Errors
 ///
-/// The cause where the frame may not stand, `Memory` where memory runs out. The frame is taken all
+/// The cause if the frame may not stand, `Memory` if memory runs out. The frame is taken all
 /// the same. The place is that of the frame.
 pub fn take_entry<S: Standing>(
     alloc: Global,

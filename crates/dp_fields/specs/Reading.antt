@@ -15,12 +15,12 @@ pub record Spells {X : Type 0} (spelling : X → List ℕ) (valid : X → Type 0
   pub bytes_are : bytes ≡ spelling x
   pub is_valid : valid x
 
--- a value that is looked for, or none where there is none
+-- a value that is looked for, or none if there is none
 abbrev pub Finds : {X : Type 0} → (X → Type 0) → Option X → Type 0
 Finds Is (Some x) = Is x
 Finds {X = X} Is None = (x : X) → Is x → ⊥
 
--- the same, where memory may run out for the value, which is seen by view
+-- the same, if memory may run out for the value, which is seen by view
 abbrev pub AnswersAs : {X Y : Type 0} → (X → Y) → (Y → Type 0) → Result X PayloadError → Type 0
 AnswersAs view Is (Ok x) = Is (view x)
 AnswersAs {Y = Y} view Is (Err Malformed) = (y : Y) → Is y → ⊥

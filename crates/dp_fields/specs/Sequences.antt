@@ -10,7 +10,7 @@ use Rattle.dp_fields.specs.FieldLaws.{IsField}
 use Rattle.dp_fields.specs.Reading.{Begins, Spells}
 use Rattle.dp_fields.specs.Wholes.{IsWhole}
 
--- the bytes are these fields, and then the rest; and where the bytes are fields to their end, so is
+-- the bytes are these fields, and then the rest; and if the bytes are fields to their end, so is
 -- the rest
 pub record Taken {X : Type 0} (spelling : X → List ℕ) (valid : X → Type 0) (bytes : List ℕ)
     (xs : List X) (rest : List ℕ) : Type 0 where
@@ -62,7 +62,7 @@ taken_more {spelling = spelling} {valid = valid} field {after = after} {xs = xs}
           (after.0, after.1, omega (arith, zs.2, after.2, length-append xs (x ∷ [])));
     }
 
--- where no field begins the bytes, they are fields to their end only if they are empty
+-- if no field begins the bytes, they are fields to their end only if they are empty
 pub ended : {X : Type 0} {spelling : X → List ℕ} {valid : X → Type 0} {bytes : List ℕ}
     → ((x : X) (rest : List ℕ) → Begins spelling valid bytes x rest → ⊥)
     → (zs : List X) → Spells (flat_map spelling) (All valid) bytes zs → (bytes ≡ []) × (zs ≡ [])

@@ -16,7 +16,7 @@ begins_all {spelling = spelling} {x = x} s = record {
   is_valid = s.is_valid;
 }
 
--- where bytes follow a field, the whole is no field
+-- if bytes follow a field, the whole is no field
 pub more_follows : {X : Type 0} {spelling : X → List ℕ} {valid : X → Type 0}
     → IsField spelling valid → {bytes rest : List ℕ} {x : X}
     → Begins spelling valid bytes x rest → 1 ≤ length rest
@@ -63,7 +63,7 @@ pub same_error : {X Y : Type 0} (P : X → Type 0) (Q : Y → Type 0) → ((y : 
 same_error P Q back on Malformed none = λ y q. let p = back y q in none p.0 p.1
 same_error P Q back on Memory there = on there.0 there.1
 
--- where the rest after a field isn't read, the whole isn't
+-- if the rest after a field isn't read, the whole isn't
 pub both_fail : {X Y : Type 0} {spell : X → List ℕ} {valid : X → Type 0} (spell' : Y → List ℕ)
     (valid' : Y → Type 0) → IsField spell valid
     → {bytes rest : List ℕ} {x : X} → Begins spell valid bytes x rest → (e : PayloadError)

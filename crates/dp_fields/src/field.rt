@@ -24,7 +24,7 @@ pub trait Field: Drop {
             → Begins spelling valid bytes.now x rest → ⊥) }
         ensures shorter { IfSome result (λ x. length x.1.now < length bytes.now) };
 
-    /// Puts the field at the end. Where memory runs out, some of its bytes may stand there.
+    /// Puts the field at the end. If memory runs out, some of its bytes may stand there.
     fn put(&self, out: &mut Vec<u8>) -> Result<(), AllocError>
         ensures { OnOk result (out.new.items ≡ out.old.items ++ spelling self.now) };
 

@@ -11,7 +11,7 @@ use Rattle.dp_board.specs.Moves.{is_draw}
 use Rattle.dp_fork.specs.declared.own.Own.{Own}
 use Rattle.dp_fork.specs.declared.own.Own.TheVariants.{Stranger, Echo, Dropped, Lost}
 
--- acts that are said and not answered, and a board that shows them, where there is one
+-- acts that are said and not answered, and a board that shows them, if there is one
 pub record Forked (B Op : Type 0) : Type 0 where
   pub board : Option B
   pub acts : List (Act Op)
@@ -20,7 +20,7 @@ pub record Forked (B Op : Type 0) : Type 0 where
 abbrev pub commands_in : {Op : Type 0} → List (Act Op) → List Op
 commands_in acts = flat_map (λ act. command_of act true) acts
 
--- a board shows these commands drawn on the confirmed one; where there is no board there is none of
+-- a board shows these commands drawn on the confirmed one; if there is no board there is none of
 -- them
 abbrev pub Shows : {B Op : Type 0} → (B → Op → B) → B → List Op → Option B → Type 0
 Shows draw confirmed commands None = commands ≡ []
@@ -32,7 +32,7 @@ pub record IsForkOf {B Op : Type 0} (is_board : B → Type 0) (draw : B → Op �
   pub board : is_board confirmed
   pub shows : Shows draw confirmed (commands_in f.acts) f.board
 
--- what the client sees: the fork's board, or the confirmed one where it has none
+-- what the client sees: the fork's board, or the confirmed one if it has none
 abbrev pub seen_on : {B Op : Type 0} → B → Forked B Op → B
 seen_on confirmed f = unwrap_or f.board confirmed
 
@@ -43,7 +43,7 @@ left_by Echo said = drop 1 said
 left_by Dropped said = drop 1 said
 left_by Lost said = []
 
--- an act that moved no group made this of a board: its command is drawn, where it is one
+-- an act that moved no group made this of a board: its command is drawn, if it is one
 abbrev pub Became : {B Op : Type 0} → (B → Op → B) → B → B → Act Op → Change → Type 0
 Became draw before now act Drew = now ≡ fold draw before (command_of act true)
 Became draw before now act Rebuilt = ⊤
@@ -60,7 +60,7 @@ Answers Lost act said = ⊤
 abbrev pub is_apart : {Op : Type 0} → (Op → Op → Bool) → Op → List Op → Bool
 is_apart apart op others = not (list_any (λ other. not (apart op other)) others)
 
--- what a stranger's act draws on the fork's board: its command, where that is apart from the
+-- what a stranger's act draws on the fork's board: its command, if that is apart from the
 -- fork's; else all of the fork's anew
 abbrev pub due_of_stranger : {Op : Type 0} → (Op → Op → Bool) → Act Op → List (Act Op) → List Op
 due_of_stranger apart (variant.Draw op) said =
@@ -76,7 +76,7 @@ due_unmoved apart act Dropped said =
     if is_draw act || list_any is_draw (take 1 said) then commands_in (drop 1 said) else []
 due_unmoved apart act Lost said = []
 
--- the commands that an act may draw on the fork's board: where it moves a group, all that are left
+-- the commands that an act may draw on the fork's board: if it moves a group, all that are left
 abbrev pub due_on_fork : {Op : Type 0}
     → (Op → Op → Bool) → Act Op → Change → Own → List (Act Op) → List Op
 due_on_fork apart act Drew own said = due_unmoved apart act own said

@@ -38,7 +38,7 @@ impl<B: Board> Model for Fork<B> {
     ghost view = { λ f. record { board = f.board; acts = f.acts.items } };
 }
 
-/// Draws the command of an act, where it is one: on the board, or where there is none on a share of
+/// Draws the command of an act, if it is one: on the board, or if there is none on a share of
 /// the confirmed one.
 ///
 /// # Errors
@@ -72,7 +72,7 @@ fn show<B: Board, D: Ledger, T: Ledger>(
     }
 }
 
-/// Draws the operation on the board, where there is one.
+/// Draws the operation on the board, if there is one.
 ///
 /// # Errors
 ///
@@ -183,7 +183,7 @@ impl<B: Board> Fork<B> {
         }
     }
 
-    /// Whether the fork needs no drawing where such an act is taken, whatever it changes.
+    /// Whether the fork needs no drawing if such an act is taken, whatever it changes.
     pub fn is_quiet(&self, act: &Act<B::Op>, own: Own) -> bool
         ensures value { result ≡ is_quiet act.now own self.now.acts }
         ensures settled { IsTrue result → (change : Changed) → MovesBy change act.now
@@ -192,7 +192,7 @@ impl<B: Board> Fork<B> {
         !has_command(&self.acts, self.first_left(own)) || (!may_move(act) && self.is_calm(act, own))
     }
 
-    /// Whether it needs no drawing where the act has changed the confirmed board so.
+    /// Whether it needs no drawing if the act has changed the confirmed board so.
     fn is_settled(&self, act: &Act<B::Op>, change: Change, own: Own) -> bool
         ensures { result ≡ is_settled act.now change own self.now.acts }
     {
@@ -213,7 +213,7 @@ impl<B: Board> Fork<B> {
         }
     }
 
-    /// Goes on to another confirmed board, where that needs no drawing. It takes no memory.
+    /// Goes on to another confirmed board, if that needs no drawing. It takes no memory.
     pub fn answer(&mut self, own: Own)
         ensures acts { self.new.acts ≡ left_by own self.old.acts }
         ensures fork { (before now : B) (act : ActOf B.Op) (change : Changed)

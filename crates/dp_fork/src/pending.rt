@@ -62,7 +62,7 @@ pub(crate) fn is_apart<B: Board>(op: &B::Op, acts: &VecDeque<Act<B::Op>>) -> boo
     true
 }
 
-/// Draws the command of an act, where it is one.
+/// Draws the command of an act, if it is one.
 fn draw_act<B: Board, D: Ledger, T: Ledger>(
     board: &mut B,
     act: &Act<B::Op>,

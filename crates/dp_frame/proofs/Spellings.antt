@@ -5,7 +5,7 @@ use Rattle.std.proofs.lemmas.List.{take_at, drop_at, take-append-drop, length-ta
 use Rattle.byteorder.specs.Endian.{big_number}
 use Rattle.dp_frame.specs.Frames.{FrameParts, IsFrame, spelling, HoldsNoFrame}
 
--- where two joined lists are equal and their first parts have one length, the parts are equal
+-- if two joined lists are equal and their first parts have one length, the parts are equal
 append_same : (fs gs xs ys : List ℕ) → length fs ≡ length gs → fs ++ xs ≡ gs ++ ys
     → (fs ≡ gs) × (xs ≡ ys)
 append_same fs gs xs ys lengths whole =

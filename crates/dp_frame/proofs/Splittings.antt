@@ -67,7 +67,7 @@ frame_before f bytes fs rest fits p = record {
 pub rest_alone : (bytes : List ℕ) → HoldsNoFrame bytes → Splits bytes [] bytes
 rest_alone bytes none = record { whole = refl; each = tt; partial = none }
 
--- where the bytes of two joined lists are below 256, those of the second list are
+-- if the bytes of two joined lists are below 256, those of the second list are
 back_small : (prefix back : List ℕ) → AllByRecursion (λ b. b < 256) (prefix ++ back)
     → AllByRecursion (λ b. b < 256) back
 back_small [] back small = small

@@ -131,7 +131,7 @@ impl<'a> FrameView<'a> {
 ///
 /// # Errors
 ///
-/// Where memory runs out. `out` is then as it was.
+/// If memory runs out. `out` is then as it was.
 pub fn write_frame(frame: &Frame, out: &mut Octets) -> Result<(), AllocError>
     ensures ok { OnOk result (out.new ≡ out.old ++ spelling frame.now) }
     ensures err { OnErr result (out.new ≡ out.old) }

@@ -32,7 +32,7 @@ pub fn no_frames()
     ensures { (bytes : List ℕ) → HoldsNoFrame bytes → Splits bytes [] bytes }
 {}
 
-/// A frame begins the bytes exactly where it is the first of their frames: the bytes after it have
+/// A frame begins the bytes exactly if it is the first of their frames: the bytes after it have
 /// the other frames and the same rest.
 pub fn first_frame()
     ensures put { (f : FrameParts) (bytes : List ℕ) (frames : List FrameParts) (rest : List ℕ)

@@ -44,7 +44,7 @@ piece_copied left bytes buf at count is copied =
     (sym (copied ∙ ap (take count) rest))
     ∙ ap (λ l. take count buf ++ l) (drop-drop count at bytes)
 
--- none was copied, where there was room: none was left
+-- none was copied, if there was room: none was left
 pub none_copied : (bytes : List ℕ) (at count piece room : ℕ)
     → count ≡ min (min (length (take (length bytes - at) (drop at bytes))) piece) room → 1 ≤ piece
     → count ≡ 0 → 0 < room → drop (at + count) bytes ≡ []

@@ -16,7 +16,7 @@ Rose before now = one_more before ≤ now
 abbrev pub any_fault : {E : Type 0} → E → Bool
 any_fault e = true
 
--- The count of faults never falls. An error that is a fault comes only where it rose, and a call
+-- The count of faults never falls. An error that is a fault comes only if it rose, and a call
 -- that is answered Ok leaves it.
 pub record HasCause {T E : Type 0} (is_fault : E → Bool) (before now : ℕ) (result : Result T E) :
     Type 0 where

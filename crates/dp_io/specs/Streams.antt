@@ -1,10 +1,10 @@
--- What reads and writes give and take, where the bytes are known.
+-- What reads and writes give and take, if the bytes are known.
 use Rattle.std.specs.Prelude.{◌≡◌, ℕ, ◌<◌, ◌≤◌, ◌↔◌, List, [], length, take, IfSome, IfOk}
 use Rattle.std.specs.Io.KnownBytes.{Appends}
 use Rattle.std.specs.declared.option.Option.{Option}
 use Rattle.std.specs.declared.result.Result.{Result}
 
--- A read with room gives no byte exactly where none is left.
+-- A read with room gives no byte exactly if none is left.
 abbrev pub EndsExactly : {E : Type 0} → Option (List ℕ) → Result ℕ E → List ℕ → Type 0
 EndsExactly left result buf =
     IfSome left (λ bytes. IfOk result (λ n. 0 < length buf → ((n ≡ 0) ↔ (bytes ≡ []))))

@@ -12,7 +12,7 @@ ghost use Rattle.dp_io.specs.Streams.{EndsExactly, TakesSome};
 use crate::{Failed, Sink, Source};
 use std::io::{Read, Write};
 
-/// A source over a reader. The bytes that are left are known where those of the reader are. Each
+/// A source over a reader. The bytes that are left are known if those of the reader are. Each
 /// error of the reader is a fault, an interrupted read too.
 #[derive(Drop)]
 pub struct StdSource<R> {
@@ -67,7 +67,7 @@ impl<R: Read + Drop> Source for StdSource<R> {
     }
 }
 
-/// A sink over a writer. The bytes that it holds are known where those of the writer are. Each
+/// A sink over a writer. The bytes that it holds are known if those of the writer are. Each
 /// error of the writer is a fault, an interrupted write too. It flushes nothing.
 #[derive(Drop)]
 pub struct StdSink<W> {

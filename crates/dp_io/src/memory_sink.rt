@@ -13,7 +13,7 @@ use crate::{Failed, Sink};
 use std::alloc::{AllocError, Global};
 use std::marker::Model;
 
-/// A sink into memory, which takes pieces and fails at chosen calls, and where it is full.
+/// A sink into memory, which takes pieces and fails at chosen calls, and if it is full.
 #[derive(Drop)]
 pub struct MemSink {
     bytes: Vec<u8>,
@@ -80,7 +80,7 @@ impl Sink for MemSink {
         ensures bytes { WriteAppends (Some self.old.held) (Some self.new.held) result bytes.now }
         ensures cause { HasCause any_fault self.old.plan.faults self.new.plan.faults result }
 
-        // It fails at the listed calls and where it is full, and takes as much as the piece and its
+        // It fails at the listed calls and if it is full, and takes as much as the piece and its
         // room let it.
         ensures failed { IsErr result ↔ IsWriteRefused self.old (length bytes.now) }
         ensures count { IfOk result (λ n. n ≡ taken_count self.old (length bytes.now)) }

@@ -11,7 +11,7 @@ use crate::Failed;
 
 /// Where bytes go to: a device, or what stands for one.
 pub trait Sink {
-    /// The bytes that it holds, where they are known.
+    /// The bytes that it holds, if they are known.
     ghost held: { Self → Option (List ℕ) };
 
     /// How often the sink has failed.
@@ -21,7 +21,7 @@ pub trait Sink {
     ///
     /// # Errors
     ///
-    /// `Failed` comes only where the count of faults rose in this call, and appends nothing. `Ok`
+    /// `Failed` comes only if the count of faults rose in this call, and appends nothing. `Ok`
     /// leaves the count.
     fn write(&mut self, bytes: &[u8]) -> Result<usize, Failed>
         ensures bound { WritesAtMost result bytes.now }
@@ -34,7 +34,7 @@ pub trait Sink {
 ///
 /// # Errors
 ///
-/// `Failed` where a write failed, which is the last call: a prefix of the bytes was written.
+/// `Failed` if a write failed, which is the last call: a prefix of the bytes was written.
 #[tactic(auto, using(crate::proofs::WriteRuns::appends_more))]
 pub fn put_all<S: Sink>(sink: &mut S, bytes: &[u8]) -> Result<(), Failed>
     ensures written { OnOk result (Appends (S.held sink.old) (S.held sink.new) bytes.now) }

@@ -13,7 +13,7 @@ pub struct Failed;
 
 /// Where bytes come from: a device, or what stands for one.
 pub trait Source {
-    /// The bytes that are left, where they are known.
+    /// The bytes that are left, if they are known.
     ghost left: { Self → Option (List ℕ) };
 
     /// How often the source has failed.
@@ -21,11 +21,11 @@ pub trait Source {
 
     /// Moves the first bytes that are left into the prefix of the buffer, and answers how many.
     ///
-    /// With a buffer that isn't empty, `Ok(0)` comes exactly where nothing is left.
+    /// With a buffer that isn't empty, `Ok(0)` comes exactly if nothing is left.
     ///
     /// # Errors
     ///
-    /// `Failed` comes only where the count of faults rose in this call, and takes no byte. `Ok`
+    /// `Failed` comes only if the count of faults rose in this call, and takes no byte. `Ok`
     /// leaves the count.
     fn read(&mut self, buf: &mut [u8]) -> Result<usize, Failed>
         ensures bound { ReadsAtMost result buf.new }

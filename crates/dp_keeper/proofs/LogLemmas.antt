@@ -16,7 +16,7 @@ rises : (last at : ℕ) (marks : List Mark) → RiseTo last at marks → at ≤ 
 rises last at [] r = omega (arith, r)
 rises last at (mark ∷ marks) r = omega (arith, r.0, rises last mark.end marks r.1)
 
--- the bytes of a row stay where more come after them
+-- the bytes of a row stay if more come after them
 row-stays : (bytes more : List ℕ) (at end : ℕ) → at ≤ end → end ≤ length bytes
     → take (end - at) (drop at (bytes ++ more)) ≡ take (end - at) (drop at bytes)
 row-stays bytes more at end rise within =

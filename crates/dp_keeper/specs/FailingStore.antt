@@ -18,7 +18,7 @@ pub record Failing : Type 0 where
   pub put_faults : ℕ
   pub read_faults : ℕ
 
--- what is listed of the next put: nothing where it is not to fail, and else whether its row is kept
+-- what is listed of the next put: nothing if it is not to fail, and else whether its row is kept
 abbrev pub listed_fault : Failing → Option Bool
 listed_fault store =
     option_map (λ listed. listed.1) (find (λ listed. listed.0 == one_more store.puts) store.fails)
@@ -34,7 +34,7 @@ with_row_if kept row store = record store {
       else store.rows;
 }
 
--- A put fails exactly where its number is listed, and then its row stays where the flag says so.
+-- A put fails exactly if its number is listed, and then its row stays if the flag says so.
 -- One for which memory runs out is counted, and adds nothing.
 abbrev pub PutsAsListed : Failing → Row → Result Unit KeepError → Failing → Type 0
 PutsAsListed old row (Ok done) new =

@@ -6,7 +6,7 @@ use Rattle.dp_keeper.specs.declared.row.Row.{Row}
 use Rattle.dp_keeper.specs.declared.keeper.KeepError.{KeepError}
 use Rattle.dp_keeper.specs.declared.keeper.KeepError.TheVariants.{Failed, Memory}
 
--- the rows with one more after them, where they are known
+-- the rows with one more after them, if they are known
 abbrev pub with_row : Row → Option (List Row) → Option (List Row)
 with_row row known = option_map (λ rows. rows ++ row ∷ []) known
 
@@ -24,7 +24,7 @@ Counts old (Ok done) new = new ≡ old
 Counts old (Err Failed) new = Rose old new
 Counts old (Err Memory) new = new ≡ old
 
--- what is read, where the rows are known, is the rows from that place on, at most that many
+-- what is read, if the rows are known, is the rows from that place on, at most that many
 abbrev pub IsPage : Option (List Row) → ℕ → ℕ → Result (List Row) KeepError → Type 0
 IsPage known from max result =
     IfSome known (λ rows. IfOk result (λ page. page ≡ take max (drop from rows)))

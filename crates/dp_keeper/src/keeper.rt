@@ -26,9 +26,9 @@ impl From<AllocError> for KeepError {
 }
 
 /// A store of rows. It counts its faults, those of puts apart from those of readings. What it holds
-/// is known where a file's content can be known.
+/// is known if a file's content can be known.
 pub trait Keeper {
-    /// The rows, where they are known.
+    /// The rows, if they are known.
     ghost held: { Self → Option (List Kept) };
 
     /// How often a put has failed; the count stops at the greatest `u64`.
@@ -41,7 +41,7 @@ pub trait Keeper {
     ///
     /// # Errors
     ///
-    /// `Failed` where the store failed: the row may have been added. `Memory` where memory ran out:
+    /// `Failed` if the store failed: the row may have been added. `Memory` if memory ran out:
     /// it was not.
     fn put(&mut self, row: &Row) -> Result<(), KeepError>
         ensures rows { Puts (held self.old) row.now result (held self.new) }
@@ -52,7 +52,7 @@ pub trait Keeper {
     ///
     /// # Errors
     ///
-    /// `Failed` where the store failed, and `Memory` where memory ran out. The rows stay.
+    /// `Failed` if the store failed, and `Memory` if memory ran out. The rows stay.
     fn rows(&mut self, from: u64, max: u32) -> Result<Rows, KeepError>
         ensures page { IsPage (held self.old) from max result }
         ensures stay { held self.new ≡ held self.old }

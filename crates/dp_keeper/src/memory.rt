@@ -39,7 +39,7 @@ impl Model for MemKeeper {
 }
 
 impl MemKeeper {
-    /// A store of these rows. A call of `put` that fails keeps its row where the flag beside its
+    /// A store of these rows. A call of `put` that fails keeps its row if the flag beside its
     /// number is true.
     pub fn new(rows: Rows, fails: Vec<(u64, bool)>, read_fails: Vec<u64>) -> MemKeeper
         ensures { result ≡ record {
@@ -113,7 +113,7 @@ impl Keeper for MemKeeper {
         ensures count { Counts self.old.put_faults result self.new.put_faults }
         ensures others { self.new.read_faults ≡ self.old.read_faults }
 
-        // It fails at the listed calls alone, and keeps the row where the flag beside says so.
+        // It fails at the listed calls alone, and keeps the row if the flag beside says so.
         ensures listed { PutsAsListed self.old row.now result self.new }
     {
         let listed = self.next_put();

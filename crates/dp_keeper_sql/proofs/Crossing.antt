@@ -1,4 +1,4 @@
--- A store may go to another thread. The kit shows it of each part of a connection, where the disk
+-- A store may go to another thread. The kit shows it of each part of a connection, if the disk
 -- may; the disk's record of its calls owns nothing.
 use denote.Param.Send.{IsSend, owning_send, sendable}
 use Rattle.std.proofs.Crossing.{crosses}

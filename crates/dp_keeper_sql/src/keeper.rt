@@ -80,11 +80,11 @@ fn rows_of(alloc: Global, found: &[sqlite::Row]) -> Result<Rows, Error> {
 }
 
 impl SqlKeeper {
-    /// The rows of the file at this path, which is made where there is none. No fault is counted.
+    /// The rows of the file at this path, which is made if there is none. No fault is counted.
     ///
     /// # Errors
     ///
-    /// `Failed` where the file can't be opened, is no database or is in use, and `Memory` where
+    /// `Failed` if the file can't be opened, is no database or is in use, and `Memory` if
     /// memory ran out.
     pub fn new(rt: &HostRuntime, path: &str) -> Result<SqlKeeper, KeepError>
         ensures { IfOk result (λ keeper. keeper ≡ record { puts = 0; readings = 0 }) }

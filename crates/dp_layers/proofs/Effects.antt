@@ -43,7 +43,7 @@ listed_back mode (inr (inr (inr (inr (inr e))))) = rw e refl
 
 -- ---- each command
 
--- a row holds something exactly where it is no group
+-- a row holds something exactly if it is no group
 abbrev pub HoldsByKind : {X : Type 0} → Row X → Type 0
 HoldsByKind row = is_some row.content ≡ not row.layer.group
 
@@ -120,7 +120,7 @@ move_parts layers id parent above can =
       within = grind arith;
     }
 
--- a row may be placed after another one as before, where the ids are kept
+-- a row may be placed after another one as before, if the ids are kept
 pub place_after : (f : LayerRow → LayerRow) → ((row : LayerRow) → (f row).id ≡ row.id)
     → (layers : List LayerRow) (id above : ℕ)
     → (above == 0 || (has_row layers above && not (above == id))) ≡ true

@@ -57,7 +57,7 @@ module _ {X : Type 0} where
   layers_with contents [] = refl
   layers_with contents (r ∷ rows) = ap (λ ls. r ∷ ls) (layers_with contents rows)
 
-  -- where the same is held for the rows' ids
+  -- if the same is held for the rows' ids
   pub with_same : (holds contents : List (Held X)) (rows : List LayerRow)
       → All (λ row. held_by holds row.id ≡ held_by contents row.id) rows
       → rows_with holds rows ≡ rows_with contents rows

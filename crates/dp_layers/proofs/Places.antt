@@ -88,7 +88,7 @@ module _ (change : LayerRow → LayerRow) where
       let rest = map-changed rows id place d (AreDistinct-tail r rows distinct) tail in
       grind (arith, missed_before (has_id id) r rows place at, rest)
 
-  -- the row is changed where it is found, and nothing where it isn't
+  -- the row is changed if it is found, and nothing if it isn't
   pub changed_found : (rows : List LayerRow) (id place : ℕ) (d : LayerRow) → AreDistinct rows
       → position (has_id id) rows ≡ Some place
       → set rows place (change (get_or rows place d)) ≡ map (change_row id change) rows

@@ -197,7 +197,7 @@ module _ (f : LayerRow → LayerRow) (keeps_id : (row : LayerRow)
         modes = All-map (λ row. IsListedMode row.mode) f rows modes;
       }
 
-  -- where the parents are kept, too
+  -- if the parents are kept, too
   pub tree-kept : ((row : LayerRow) → (f row).parent ≡ row.parent) → IsLayerTree rows
       → All (λ row. IsListedMode (f row).mode) rows → IsLayerTree (map f rows)
   tree-kept keeps_parent tree modes =

@@ -15,7 +15,7 @@ use Rattle.dp_layers.specs.Layers.{nesting_limit, row_limit, has_id, has_row, is
 use Rattle.dp_layers.specs.Layers.{is_within, is_in, are_within, is_listed_mode}
 use Rattle.dp_layers.specs.Rows.{Row, layers_of}
 
--- what change makes of the row, where it has the id
+-- what change makes of the row, if it has the id
 abbrev pub change_row : ℕ → (LayerRow → LayerRow) → LayerRow → LayerRow
 change_row id change row = if has_id id row then change row else row
 
@@ -84,7 +84,7 @@ inserted_after test taken [] = []
 inserted_after test taken (row ∷ rows) =
     if test row then row ∷ (taken ++ rows) else row ∷ inserted_after test taken rows
 
--- The row of the id is taken out and stands directly after the row `above`, or first where that is
+-- The row of the id is taken out and stands directly after the row `above`, or first if that is
 -- 0. Rows below it stay in their places. (`has` says whether a row has an id.)
 abbrev pub placed : {R : Type 0} → (ℕ → R → Bool) → List R → ℕ → ℕ → List R
 placed has rows id above =
@@ -110,7 +110,7 @@ has_effect rows (LayerMove id parent above) = can_move rows id parent above
 has_effect rows (LayerDelete id) = has_row rows id
 has_effect rows _ = false
 
--- the effect, where x is what a new row holds
+-- the effect, if x is what a new row holds
 abbrev pub effect_on : {X : Type 0} → List (Row X) → Draw → Option X → List (Row X)
 effect_on rows (LayerCreate id parent group title) x =
     created rows (new_row id parent group title) x
@@ -121,7 +121,7 @@ effect_on rows (LayerMove id parent above) x = moved rows id parent above
 effect_on rows (LayerDelete id) x = deleted rows id
 effect_on rows _ x = rows
 
--- the rows after the command, where x is what a new row holds
+-- the rows after the command, if x is what a new row holds
 abbrev pub rows_after : {X : Type 0} → List (Row X) → Draw → Option X → List (Row X)
 rows_after rows op x = if has_effect (layers_of rows) op then effect_on rows op x else rows
 

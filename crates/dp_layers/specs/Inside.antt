@@ -49,7 +49,7 @@ abbrev pub as_moved : List LayerRow → Option Moved → List LayerRow
 as_moved rows None = rows
 as_moved rows (Some moved) = map (change_row moved.id (set_parent moved.parent)) rows
 
--- where a row stands directly after the row `above`, or first where that is 0
+-- where a row stands directly after the row `above`, or first if that is 0
 abbrev pub place_after : List LayerRow → ℕ → ℕ
 place_after rows above =
     if above == 0 then 0 else option_map_or (λ at. at + 1) (position (has_id above) rows) 0

@@ -38,7 +38,7 @@ is_paint_row rows id = option_map_or (λ row. not row.group) (row_of rows id) fa
 abbrev pub is_root_or_group : List LayerRow → ℕ → Bool
 is_root_or_group rows id = id == 0 || is_group_row rows id
 
--- the parent of the row, 0 where no row has the id
+-- the parent of the row, 0 if no row has the id
 abbrev pub parent_of : List LayerRow → ℕ → ℕ
 parent_of rows id = option_map_or (λ row. row.parent) (row_of rows id) 0
 

@@ -4,7 +4,7 @@ use Rattle.std.specs.List.{find, filter_map}
 use Rattle.std.specs.Option.{option_map, option_and_then}
 use Rattle.dp_layers.specs.declared.row.LayerRow.{LayerRow}
 
--- a row, and what it holds where it is a paint row
+-- a row, and what it holds if it is a paint row
 pub record Row (X : Type 0) : Type 0 where
   pub layer : LayerRow
   pub content : Option X
@@ -22,7 +22,7 @@ abbrev pub content_of : {X : Type 0} → List (Row X) → ℕ → Option X
 content_of rows id =
     option_and_then (λ row. row.content) (find (λ row. row.layer.id == id) rows)
 
--- the row, which holds x where it has the id
+-- the row, which holds x if it has the id
 abbrev pub fill_row : {X : Type 0} → ℕ → X → Row X → Row X
 fill_row id x row = if row.layer.id == id then record row { content = Some x } else row
 

@@ -34,7 +34,7 @@ pub(crate) fn new_row(
     })
 }
 
-/// Puts a row last, which holds x, where it is no group.
+/// Puts a row last, which holds x, if it is no group.
 ///
 /// # Errors
 ///

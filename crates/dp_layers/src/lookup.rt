@@ -61,7 +61,7 @@ fn is_root_or_group(rows: &[LayerRow], id: u16) -> bool
     id == 0 || row_of(rows, id).map_or(false, |row| row.group)
 }
 
-/// The parent of the row once the moved one stands in its own, 0 where no row has the id.
+/// The parent of the row once the moved one stands in its own, 0 if no row has the id.
 #[tactic(auto, using(crate::proofs::Layers::row_of_moved))]
 fn parent_of(rows: &[LayerRow], moved: Option<Moved>, id: u16) -> u16
     ensures { result ≡ parent_of (as_moved rows.now moved) id }

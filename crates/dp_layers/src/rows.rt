@@ -56,7 +56,7 @@ impl Rows {
         }
     }
 
-    /// Makes the list this tree's alone: a copy, where others have it too.
+    /// Makes the list this tree's alone: a copy, if others have it too.
     fn own(&mut self, alloc: Global) -> Result<(), AllocError>
         ensures { self.new ≡ self.old }
     {
@@ -89,7 +89,7 @@ impl Rows {
     }
 }
 
-/// Makes the list the caller's alone: a copy, where others have it too.
+/// Makes the list the caller's alone: a copy, if others have it too.
 fn own_list(alloc: Global, list: &mut Arc<Vec<LayerRow>>) -> Result<(), AllocError>
     ensures { list.new.value.items ≡ list.old.value.items }
 {

@@ -87,7 +87,7 @@ impl<X: Drop> Tree<X> {
         self.rows.as_slice()
     }
 
-    /// What the paint row of the id holds, or `None` where no paint row has the id.
+    /// What the paint row of the id holds, or `None` if no paint row has the id.
     pub fn content(&self, id: u16) -> Option<&X>
         ensures value { option_copied result ≡ content_of self.now id }
         ensures paint { is_some result ≡ is_paint_row (layers_of self.now) id }
@@ -95,7 +95,7 @@ impl<X: Drop> Tree<X> {
         held_by(&self.contents, id)
     }
 
-    /// What the paint row of the id holds, to be changed, or `None` where no paint row has the id.
+    /// What the paint row of the id holds, to be changed, or `None` if no paint row has the id.
     pub fn content_mut(&mut self, id: u16) -> Option<&mut X>
         ensures* writes_back { sem 𝓛 (lends_content X.row self.entry id result) }
         ensures value { option_copied_mut result ≡ content_of self.old id }
@@ -127,7 +127,7 @@ impl<X: Drop> Tree<X> {
         has_effect(self.rows(), command)
     }
 
-    /// LayerCreate: puts a new row last, which holds x, where it is no group. True exactly where
+    /// LayerCreate: puts a new row last, which holds x, if it is no group. True exactly if
     /// the command has an effect.
     ///
     /// # Errors
@@ -161,7 +161,7 @@ impl<X: Drop> Tree<X> {
         Ok(true)
     }
 
-    /// LayerAttr: gives the row its opacity and mode, and hides it or shows it. True exactly where
+    /// LayerAttr: gives the row its opacity and mode, and hides it or shows it. True exactly if
     /// the command has an effect.
     ///
     /// # Errors
@@ -178,7 +178,7 @@ impl<X: Drop> Tree<X> {
         self.rearrange(command)
     }
 
-    /// LayerTitle: gives the row its title. True exactly where the command has an effect.
+    /// LayerTitle: gives the row its title. True exactly if the command has an effect.
     ///
     /// # Errors
     ///
@@ -194,7 +194,7 @@ impl<X: Drop> Tree<X> {
         self.rearrange(command)
     }
 
-    /// LayerMove: puts the row into another parent, and after another row. True exactly where the
+    /// LayerMove: puts the row into another parent, and after another row. True exactly if the
     /// command has an effect.
     ///
     /// # Errors
@@ -228,7 +228,7 @@ impl<X: Drop> Tree<X> {
         Ok(true)
     }
 
-    /// LayerDelete: takes the row away, with all rows below it. True exactly where the command has
+    /// LayerDelete: takes the row away, with all rows below it. True exactly if the command has
     /// an effect.
     ///
     /// # Errors

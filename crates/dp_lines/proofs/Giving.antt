@@ -24,7 +24,7 @@ pub lines_from_parts : (held : Held)
 lines_from_parts held = numbered-append held.count (ended held.bytes)
     (if_any (open_rest held.bytes))
 
--- two joined lists are empty only where the first is
+-- two joined lists are empty only if the first is
 prefix_none : (prefix after : List Line) → prefix ++ after ≡ [] → prefix ≡ []
 prefix_none [] after none = refl
 prefix_none (line ∷ prefix) after none = absurd (cc (none))
@@ -45,14 +45,14 @@ further_lines prefix old new taken count rest =
     (if_any b)) (sym rest)
     ∙ sym (lines_from_parts new))
 
--- where no line is to come, none with its newline is
+-- if no line is to come, none with its newline is
 pub none_lines : (held : Held) → lines_from held ≡ [] → ended_from held ≡ []
 none_lines held none = prefix_none (ended_from held) _ (sym (lines_from_parts held) ∙ none)
 
 pub lines_kept : (old new : Held) → Keeps old new → lines_from old ≡ lines_from new
 lines_kept old new keeps = further_lines [] old new (sym keeps.lines) keeps.count keeps.rest
 
--- a line is given exactly where it is taken off in front
+-- a line is given exactly if it is taken off in front
 pub given_line : (from : Held → List Line) (held new after : Held) (line : Line)
     (r : Result (Option Line) LineError)
     → from held ≡ line ∷ from after → IfOk r (λ next. next ≡ Some line) → OnOk r (new ≡ after)
@@ -71,13 +71,13 @@ pub same_after : {A : Type 0} (of : Held → A) (held new after : Held)
 same_after of held new after (Ok next) same taken left = ap of taken ∙ same
 same_after of held new after (Err error) same taken left = ap of left
 
--- what holds in any case holds where no line is given
+-- what holds in any case holds if no line is given
 pub if_none : {P : Type 0} (r : Result (Option Line) LineError) → P → IfOk r (λ next. IfNone next P)
 if_none (Ok (Some line)) fact = tt
 if_none (Ok None) fact = fact
 if_none (Err error) fact = tt
 
--- what follows from a fact that holds where no line is given
+-- what follows from a fact that holds if no line is given
 pub if_none_then : {P Q : Type 0} (r : Result (Option Line) LineError) → (P → Q)
     → IfOk r (λ next. IfNone next P) → IfOk r (λ next. IfNone next Q)
 if_none_then (Ok (Some line)) then fact = tt
@@ -109,11 +109,11 @@ long_next held line after r first says n = (
       (next.long, sym next.number)),
 )
 
--- where no line is to come, none is too long
+-- if no line is to come, none is too long
 pub none_next : (held : Held) → lines_from held ≡ [] → (n : ℕ) → NextIsLong held n → ⊥
 none_next held none n next = absurd (cc (next.next))
 
--- what holds of the next line to come holds where only lines were taken that are passed over
+-- what holds of the next line to come holds if only lines were taken that are passed over
 pub long_kept : (old new : Held) (n : ℕ) → Keeps old new → NextIsLong new n → NextIsLong old n
 long_kept old new n keeps next = record {
   line = next.line;
@@ -144,7 +144,7 @@ first_of_lines held len end kept = (
       (lines_after_kept held len end kept),
 )
 
--- bytes are one line, where there are any
+-- bytes are one line, if there are any
 if_any_some : (bytes : List ℕ) → 0 < length bytes → if_any bytes ≡ bytes ∷ []
 if_any_some [] some = absurd (omega arith)
 if_any_some (byte ∷ more) some = refl
@@ -244,7 +244,7 @@ next_in_rest held lacks line after next = elim (cases_lt 0 (length held.bytes)) 
       ))
 ]
 
--- it is too long and has the next number exactly where the call says so
+-- it is too long and has the next number exactly if the call says so
 pub long_in_rest : (held : Held) → Lacks newline held.bytes → (n : ℕ) → NextIsLong held n
     → (IsTrue (is_overlong held.bytes)) × (n ≡ held.count + 1)
 long_in_rest held lacks n next =

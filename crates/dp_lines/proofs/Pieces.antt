@@ -7,7 +7,7 @@ use Rattle.std.proofs.lemmas.List.Elements.{All-nil, All-cons}
 use Rattle.std.proofs.lemmas.List.Splits.{slice_split_none, slice_split_at, length-slice_split}
 use Rattle.dp_lines.specs.Lines.{newline, pieces, Lacks, all_but_last, ended, open_rest}
 
--- the test of each byte fails where none is the separator
+-- the test of each byte fails if none is the separator
 tests_fail : (separator : ℕ) (bytes : List ℕ) → Lacks separator bytes
     → All (λ byte. (byte == separator) ≡ false) bytes
 tests_fail separator bytes lacks k d within = ne_eqb (get_or bytes k d) separator (lacks k d within)

@@ -56,7 +56,7 @@ found_end bytes from at scanned found =
       at = sym (get_or-drop from bytes at 0) ∙ eqb-true _ _ (parts 0).1;
     }
 
--- where the prefix that passes is the whole list, all passes
+-- if the prefix that passes is the whole list, all passes
 all_pass : (test : ℕ → Bool) (xs : List ℕ) → length xs ≤ prefix_len test xs
     → All (λ x. test x ≡ true) xs
 all_pass test [] whole = All-nil (λ x. test x ≡ true)
@@ -69,7 +69,7 @@ all_pass test (x ∷ xs) whole = elim (cases_Bool (test x)) [
       absurd (omega (arith, none))
 ]
 
--- where no position is found, the prefix without one is the whole list
+-- if no position is found, the prefix without one is the whole list
 none_found : (test : ℕ → Bool) (xs : List ℕ) → position test xs ≡ None
     → length xs ≤ position_or_len test xs
 none_found test xs none = elim (cases_lt (position_or_len test xs) (length xs)) [
@@ -80,7 +80,7 @@ none_found test xs none = elim (cases_lt (position_or_len test xs) (length xs)) 
   | inr above ↦ above
 ]
 
--- where none is found after the scanned front, there is none
+-- if none is found after the scanned front, there is none
 pub found_none : (bytes : List ℕ) (from : ℕ) → IsScanned bytes from
     → position (λ byte. byte == newline) (drop from bytes) ≡ None → Lacks newline bytes
 found_none bytes from scanned none =

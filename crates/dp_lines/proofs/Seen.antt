@@ -206,7 +206,7 @@ long_seen limit all more done held n left counts found =
           }
     ]
 
--- where the input is cut, a rest that isn't too long is no line
+-- if the input is cut, a rest that isn't too long is no line
 pub cut_seen : (limit : ℕ) (all more : List ℕ) (done : List Line) (held : Held)
     → IsLeft all done held → length all ≡ limit → more ≢ [] → ended_from held ≡ []
     → ((n : ℕ) → ¬ NextIsLong held n) → seen limit (all ++ more) ≡ done

@@ -1,4 +1,4 @@
--- What an input of lines comes to, where each line is to be a step after those before it.
+-- What an input of lines comes to, if each line is to be a step after those before it.
 use Rattle.std.specs.Prelude.{◌≡◌, ℕ, ◌<◌, ◌≤◌, if◌then◌else◌, nat_le, List, [], ◌∷◌, ◌++◌, length}
 use Rattle.std.specs.Prelude.{take}
 use Rattle.dp_lines.specs.declared.line.Line.{Line}

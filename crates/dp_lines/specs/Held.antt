@@ -16,7 +16,7 @@ pub record Held : Type 0 where
 abbrev pub ended_from : Held → List Line
 ended_from held = numbered held.count (ended held.bytes)
 
--- the lines to come where nothing more is fed
+-- the lines to come if nothing more is fed
 abbrev pub lines_from : Held → List Line
 lines_from held = numbered held.count (lines held.bytes)
 

@@ -38,7 +38,7 @@ ended bytes = all_but_last (pieces newline bytes)
 unfoldable pub open_rest : List ℕ → List ℕ
 open_rest bytes = slice_index_or (pieces newline bytes) (length (pieces newline bytes) - 1) []
 
--- the list with the bytes as its one item, or none where there are no bytes
+-- the list with the bytes as its one item, or none if there are no bytes
 abbrev pub if_any : List ℕ → List (List ℕ)
 if_any [] = []
 if_any (byte ∷ more) = (byte ∷ more) ∷ []

@@ -19,7 +19,7 @@ pub record IsEnd (bytes : List ℕ) (len : ℕ) : Type 0 where
 abbrev pub first_line : Held → ℕ → Line
 first_line held len = record { number = held.count + 1; bytes = take len held.bytes }
 
--- what is left where `len` bytes are taken as a line
+-- what is left if `len` bytes are taken as a line
 abbrev pub after_first : Held → ℕ → Held
 after_first held taken =
     record { count = held.count + 1; bytes = drop taken held.bytes; fed = held.fed }

@@ -9,7 +9,7 @@ ghost use Rattle.dp_lines.specs.Hexadecimal.{hex_bytes, hex_text};
 use hex::{FromHexError, decode, encode};
 use std::alloc::{AllocError, Global};
 
-/// The bytes that the digits of the word spell, of either case; `None` where it isn't hexadecimal.
+/// The bytes that the digits of the word spell, of either case; `None` if it isn't hexadecimal.
 pub fn hex_of(alloc: Global, word: &[u8]) -> Result<Option<Vec<u8>>, AllocError>
     ensures { IfOk result (λ found. option_map (λ bytes. bytes.items) found ≡ hex_bytes word.now) }
 {

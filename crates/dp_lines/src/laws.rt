@@ -90,7 +90,7 @@ pub fn lines_seen()
         → ended_from held ≡ [] → ((n : ℕ) → ¬ NextIsLong held n)
         → seen limit (all ++ more) ≡ done }
 
-    // Where the input ends within the limit, what is left are the lines to come.
+    // If the input ends within the limit, what is left are the lines to come.
     ensures whole { (limit : ℕ) (all : List ℕ) (done : List Line) (held : Held)
         → IsLeft all done held → length all ≤ limit
         → seen limit all ≡ done ++ lines_from held }
@@ -119,7 +119,7 @@ pub fn one_number()
     ensures { (word : List ℕ) (m n : ℕ) → IsNumber word m → IsNumber word n → m ≡ n }
 {}
 
-/// A word spells bytes exactly where it has an even number of hexadecimal digits, and the digits of
+/// A word spells bytes exactly if it has an even number of hexadecimal digits, and the digits of
 /// bytes spell them.
 pub fn hex_read_back()
     ensures digits { (word : List ℕ)

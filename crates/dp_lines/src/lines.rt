@@ -94,7 +94,7 @@ impl Lines {
         ensures lines { ended_from self.old ≡ given result ++ ended_from self.new }
         ensures none { IfOk result (λ next. IfNone next (ended_from self.old ≡ [])) }
 
-        // Too long is answered exactly where the next line, ended or not, is.
+        // Too long is answered exactly if the next line, ended or not, is.
         ensures fits { IfOk result (λ next. IfSome next IsInLimit) }
         ensures long { (n : ℕ) → (result ≡ Err (LineError.Long n)) ↔ NextIsLong self.old n }
         ensures memory { result ≡ Err LineError.Memory → ended_from self.old ≢ [] }
@@ -111,14 +111,14 @@ impl Lines {
         }
     }
 
-    /// Gives the next line of what is held, where the last line needs no newline. Lines that are
+    /// Gives the next line of what is held, if the last line needs no newline. Lines that are
     /// passed over may be taken and counted whatever the answer; nothing else is lost.
     pub fn finish(&mut self) -> Result<Option<Line>, LineError>
         // The lines to come are the one that is given, if one is, and then those that are left.
         ensures lines { lines_from self.old ≡ given result ++ lines_from self.new }
         ensures none { IfOk result (λ next. IfNone next (lines_from self.old ≡ [])) }
 
-        // Too long is answered exactly where the next line is.
+        // Too long is answered exactly if the next line is.
         ensures fits { IfOk result (λ next. IfSome next IsInLimit) }
         ensures long { (n : ℕ) → (result ≡ Err (LineError.Long n)) ↔ NextIsLong self.old n }
         ensures memory { result ≡ Err LineError.Memory → lines_from self.old ≢ [] }
@@ -140,8 +140,8 @@ impl Lines {
     ghost use Rattle.dp_lines.specs.Held.{ended_from, lines_from, given, NextIsLong, IsInLimit};
     ghost use Rattle.dp_lines.specs.Taken.{first_line, after_first, Keeps};
 
-    /// Takes the lines off that are passed over, up to the first other one, and answers where that
-    /// one's newline stands; `None` where no further newline is held.
+    /// Takes the lines off that are passed over, up to the first other one, and answers if that
+    /// one's newline stands; `None` if no further newline is held.
     fn pass_over(&mut self) -> Option<usize>
         ensures end { IfSome result (IsEnd self.new.bytes) }
         ensures first { IfSome result (λ len. is_skipped (take len self.new.bytes) ≡ false) }
@@ -185,7 +185,7 @@ impl Lines {
         self.take_line(len, 1)
     }
 
-    /// Gives no line where only the rest is held, which has no newline. An error where it is too
+    /// Gives no line if only the rest is held, which has no newline. An error where it is too
     /// long already.
     fn refuse_long_rest(&self) -> Result<Option<Line>, LineError>
         requires { Lacks newline self.now.bytes }

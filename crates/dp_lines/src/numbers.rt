@@ -9,7 +9,7 @@ use itoa::Buffer;
 use std::alloc::AllocError;
 use std::str;
 
-/// The number of 32 bits that the word is; `None` where it is none.
+/// The number of 32 bits that the word is; `None` if it is none.
 pub fn number(word: &[u8]) -> Option<u32>
     ensures some { IfSome result (IsNumber word.now) }
     ensures none { IfNone result ((n : ℕ) → ¬ IsNumber word.now n) }
@@ -17,7 +17,7 @@ pub fn number(word: &[u8]) -> Option<u32>
     u32::try_from(long_number(word)?).ok()
 }
 
-/// The number of 64 bits that the word is; `None` where it is none.
+/// The number of 64 bits that the word is; `None` if it is none.
 pub fn long_number(word: &[u8]) -> Option<u64>
     ensures some { IfSome result (IsLongNumber word.now) }
     ensures none { IfNone result ((n : ℕ) → ¬ IsLongNumber word.now n) }

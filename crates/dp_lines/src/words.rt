@@ -11,7 +11,7 @@ use crate::Line;
 /// The byte that separates two words.
 const SPACE: u8 = b' ';
 
-/// The word of the line at index `k`; `None` where it has no more than `k` words.
+/// The word of the line at index `k`; `None` if it has no more than `k` words.
 pub fn word(line: &Line, k: usize) -> Option<&[u8]>
     ensures { option_copied result ≡ slice_get (words line.now.bytes) k }
 {

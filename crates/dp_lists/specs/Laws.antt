@@ -3,7 +3,7 @@ use Rattle.std.specs.Prelude.{◌≡◌, ◌≢◌, ◌⊎◌, ℕ, ◌+◌, ◌
 use Rattle.std.specs.Prelude.{length, slice_set}
 use Rattle.dp_lists.specs.Numbered.{numbered}
 
--- items keep their numbers where more come after them
+-- items keep their numbers if more come after them
 abbrev pub NumbersStay : Type 0 → Type 0
 NumbersStay X =
     (xs more : List X) (i : ℕ) (x : X) → numbered xs i ≡ Some x → numbered (xs ++ more) i ≡ Some x
@@ -14,7 +14,7 @@ LastIsNext X =
     (xs : List X) (y : X) (i : ℕ) (x : X) → numbered (xs ++ y ∷ []) i ≡ Some x
     → (numbered xs i ≡ Some x) ⊎ ((i ≡ length xs + 1) × (x ≡ y))
 
--- where the item of a number is replaced, the others stay
+-- if the item of a number is replaced, the others stay
 abbrev pub OthersStay : Type 0 → Type 0
 OthersStay X =
     (xs : List X) (i j : ℕ) (y : X) → 0 < i → j ≢ i

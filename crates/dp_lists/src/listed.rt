@@ -55,7 +55,7 @@ impl<T: Drop> Listed<T> {
     ///
     /// # Errors
     ///
-    /// Where memory runs out. The item is dropped then, and the list is as it was.
+    /// If memory runs out. The item is dropped then, and the list is as it was.
     pub fn push(&mut self, item: T) -> Result<(), AllocError>
         ensures ok { OnOk result (self.new ≡ self.old ++ item ∷ []) }
         ensures err { OnErr result (self.new ≡ self.old) }
@@ -84,7 +84,7 @@ impl Listed<u8> {
     ///
     /// # Errors
     ///
-    /// Where memory runs out. The bytes are then as they were.
+    /// If memory runs out. The bytes are then as they were.
     pub fn append(&mut self, bytes: &[u8]) -> Result<(), AllocError>
         ensures ok { OnOk result (self.new ≡ self.old ++ bytes.now) }
         ensures err { OnErr result (self.new ≡ self.old) }
@@ -96,7 +96,7 @@ impl Listed<u8> {
     ///
     /// # Errors
     ///
-    /// Where memory runs out. The bytes are then as they were.
+    /// If memory runs out. The bytes are then as they were.
     pub fn append_both(&mut self, first: &[u8], second: &[u8]) -> Result<(), AllocError>
         ensures ok { OnOk result (self.new ≡ self.old ++ first.now ++ second.now) }
         ensures err { OnErr result (self.new ≡ self.old) }

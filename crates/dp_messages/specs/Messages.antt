@@ -82,6 +82,6 @@ frame_of entry = record {
   body = payload_of entry.msg;
 }
 
--- the bytes of that frame; they are read again where the message has a spelling
+-- the bytes of that frame; they are read again if the message has a spelling
 abbrev pub entry_bytes : Entry → List ℕ
 entry_bytes entry = spelling (frame_of entry)

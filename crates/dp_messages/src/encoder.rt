@@ -63,7 +63,7 @@ pub fn encode(alloc: Global, entry: &Entry) -> Result<Frame, AllocError>
 ///
 /// # Errors
 ///
-/// Where memory runs out. `out` is then as it was.
+/// If memory runs out. `out` is then as it was.
 pub fn put_payload(msg: &Msg, out: &mut Vec<u8>) -> Result<(), AllocError>
     ensures ok { OnOk result (out.new.items ≡ out.old.items ++ payload_of msg.now) }
     ensures err { OnErr result (out.new.items ≡ out.old.items) }
@@ -94,12 +94,12 @@ fn put_part(command: &Draw, out: &mut Vec<u8>) -> Result<(), AllocError>
     Ok(())
 }
 
-/// Adds the bytes of the entry's frame at the end. They are read again as the entry where the
+/// Adds the bytes of the entry's frame at the end. They are read again as the entry if the
 /// message has a spelling (`entries_are_read_again`).
 ///
 /// # Errors
 ///
-/// Where memory runs out. `out` is then as it was.
+/// If memory runs out. `out` is then as it was.
 pub fn put_entry(entry: &Entry, out: &mut Vec<u8>) -> Result<(), AllocError>
     ensures ok { OnOk result (out.new.items ≡ out.old.items ++ entry_bytes entry.now) }
     ensures err { OnErr result (out.new.items ≡ out.old.items) }
@@ -121,7 +121,7 @@ fn set_length(out: &mut Vec<u8>, start: usize, len: usize)
 ///
 /// # Errors
 ///
-/// Where memory runs out. `out` is then as it was.
+/// If memory runs out. `out` is then as it was.
 pub fn put_message(user: u8, msg: &Msg, out: &mut Vec<u8>) -> Result<(), AllocError>
     ensures ok { OnOk result (out.new.items
         ≡ out.old.items ++ entry_bytes (record { user = user; msg = msg.now })) }

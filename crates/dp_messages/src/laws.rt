@@ -30,7 +30,7 @@ pub fn one_message()
     one_draw();
 }
 
-/// A frame carries at most one entry. It is refused in at most one way, and only where it carries
+/// A frame carries at most one entry. It is refused in at most one way, and only if it carries
 /// none: so what `decode` answers is one answer.
 pub fn one_answer()
     ensures entry { (frame : FrameParts) (e f : Entry) → Carries frame e → Carries frame f → e ≡ f }

@@ -41,7 +41,7 @@ pub record Form (kind : ℕ) {X : Type 0} {spelling : X → List ℕ} {valid : X
 other : {P : Type 0} {j k : ℕ} → j ≡ k → (j == k) ≡ false → P
 other {j = j} {k = k} e differ = absurd (false≢true (sym differ ∙ eq-eqb j k e))
 
--- where no parts are read, no message is
+-- if no parts are read, no message is
 pub refused : {k kind : ℕ} {X : Type 0} {spelling : X → List ℕ} {valid : X → Type 0}
     {parts : IsWhole spelling valid} {make : X → Draw} {bytes : List ℕ}
     → k ≡ kind → Form kind parts make → ((x : X) → Spells spelling valid bytes x → ⊥) → (m : Draw)
@@ -50,7 +50,7 @@ refused is form none m s =
     let f = form.of m (sym is ∙ s.kind) s.spelled in
     none f.0 (record { bytes_are = s.payload ∙ f.2; is_valid = f.3 })
 
--- the same where memory may have run out
+-- the same if memory may have run out
 pub fails : {k kind : ℕ} {X : Type 0} {spelling : X → List ℕ} {valid : X → Type 0}
     {parts : IsWhole spelling valid} {make : X → Draw} (bytes : List ℕ)
     → k ≡ kind → Form kind parts make → ((x : X) → valid x → SpellsDraw kind (spelling x) (make x))
@@ -105,7 +105,7 @@ pub image_whole : IsWhole (λ (i : Image). four_bytes i.w ++ four_bytes i.h
     ++ flat_map four_bytes i.colors) IsWholeImage
 image_whole = record { one = one_image }
 
--- where as many colours as an image has aren't read, the image isn't
+-- if as many colours as an image has aren't read, the image isn't
 pub image_fails : (w h area : ℕ) {bytes rest : List ℕ} → Begins {X = ℕ × ℕ}
     (λ p. four_bytes p.0 ++ four_bytes p.1) (λ p. (p.0 < 2 ^ 32) × (p.1 < 2 ^ 32)) bytes (w, h) rest
     → 1 ≤ w → 1 ≤ h → area ≡ w * h → area ≤ 16379
@@ -161,7 +161,7 @@ content_back e (Pixels ps) s = (
   },
 )
 
--- where the pixels after form 1 aren't read, the content isn't
+-- if the pixels after form 1 aren't read, the content isn't
 pub content_fails : {bytes rest : List ℕ} → bytes ≡ 1 ∷ rest → (e : PayloadError)
     → Answers (Spells (flat_map pixel_bytes) IsTile rest) (Err e)
     → Answers (Spells content_bytes IsContent bytes) (Err e)

@@ -1,4 +1,4 @@
--- Pixels are all equal where the bytes after the first one are a prefix of all the bytes.
+-- Pixels are all equal if the bytes after the first one are a prefix of all the bytes.
 use Rattle.std.proofs.Common.{◌≡◌, ℕ, ◌*◌, ◌-◌, ◌≤◌, Bool, true, false, List, [], ◌∷◌, ◌++◌, length}
 use Rattle.std.proofs.Common.{drop, take, refl, sym, ap, subst, ◌∙◌, arith, All}
 use Rattle.std.proofs.Common.{nat_eq}

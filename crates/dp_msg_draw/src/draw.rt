@@ -23,7 +23,7 @@ pub enum TileContent {
 /// A drawing message. Each is relayed to everybody and drawn by each client.
 #[derive(Drop, PartialEq)]
 pub enum Draw {
-    /// The canvas grows by this many pixels on each side, or shrinks where a number is negative.
+    /// The canvas grows by this many pixels on each side, or shrinks if a number is negative.
     CanvasResize {
         top: i32,
         right: i32,

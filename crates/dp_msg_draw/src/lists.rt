@@ -47,7 +47,7 @@ impl Title {
         }
     }
 
-    /// The title of these bytes, where they are one.
+    /// The title of these bytes, if they are one.
     pub fn from_vec(bytes: Vec<u8>) -> Option<Title>
         ensures title { IsSome result ↔ IsTitle bytes.items }
         ensures value { IfSome result (λ t. t ≡ bytes.items) }

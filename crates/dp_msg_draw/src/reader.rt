@@ -115,8 +115,8 @@ fn message_at(alloc: Global, kind: u8, payload: &[u8]) -> Result<Draw, PayloadEr
     }
 }
 
-/// The message that a payload of a drawing kind spells. `Malformed` comes exactly where it spells
-/// none, and `Memory` where memory runs out for a title, colours, pixels or dabs.
+/// The message that a payload of a drawing kind spells. `Malformed` comes exactly if it spells
+/// none, and `Memory` if memory runs out for a title, colours, pixels or dabs.
 pub fn read_draw(alloc: Global, kind: u8, payload: &[u8]) -> Result<Draw, PayloadError>
     requires { IsDrawKind kind }
     ensures found { IfOk result (SpellsDraw kind payload.now) }

@@ -104,7 +104,7 @@ impl Tail for Image {
     }
 }
 
-/// The 4096 pixels that these bytes are, not all equal. Pixels are all equal where the bytes after
+/// The 4096 pixels that these bytes are, not all equal. Pixels are all equal if the bytes after
 /// the first one are a prefix of all the bytes.
 fn read_pixels(alloc: Global, bytes: &[u8]) -> Result<TilePixels, PayloadError>
     ensures { Answers (Spells (flat_map pixel_bytes) IsTile bytes.now) result }

@@ -13,7 +13,7 @@ use std::alloc::AllocError;
 /// Room for the payloads of most messages, which is made at once.
 const ROOM: usize = 48;
 
-/// Puts a message's fields at the end. Where memory runs out, some of their bytes may stand there.
+/// Puts a message's fields at the end. If memory runs out, some of their bytes may stand there.
 #[rattlefmt::skip]
 fn put_draw(m: &Draw, out: &mut Vec<u8>) -> Result<(), AllocError>
     ensures spelled { OnOk result (out.new.items ≡ out.old.items ++ draw_payload m.now) }
@@ -54,7 +54,7 @@ fn put_draw(m: &Draw, out: &mut Vec<u8>) -> Result<(), AllocError>
 ///
 /// # Errors
 ///
-/// Where memory runs out. `out` is then as it was.
+/// If memory runs out. `out` is then as it was.
 pub fn write_draw(m: &Draw, out: &mut Vec<u8>) -> Result<(), AllocError>
     ensures appends { OnOk result (out.new.items ≡ out.old.items ++ draw_payload m.now) }
     ensures short { length out.new.items ≤ length out.old.items + 65535 }

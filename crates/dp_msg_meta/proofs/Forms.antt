@@ -1,4 +1,4 @@
--- The fields that a message of a kind is made of: where they aren't read, no message is spelled.
+-- The fields that a message of a kind is made of: if they aren't read, no message is spelled.
 use Rattle.std.proofs.Common.{◌≡◌, ℕ, ◌^◌, ◌<◌, ◌≤◌, Bool, List, ◌++◌, Err, refl, arith}
 use Rattle.std.specs.Str.{IsUtf8}
 use Rattle.dp_fields.specs.declared.error.PayloadError.{PayloadError}
@@ -26,7 +26,7 @@ abbrev pub Refuses : {X : Type 0} {spelling : X → List ℕ} {valid : X → Typ
 Refuses {X = X} {spelling = spelling} {valid = valid} field bytes = (x : X)
     → Spells spelling valid bytes x → ⊥
 
--- ---- where no fields are read, no message is
+-- ---- if no fields are read, no message is
 
 pub no_welcome : {k : ℕ} {bytes : List ℕ} → k ≡ 4
     → Refuses (pair_field (pair_field two_field byte_field)

@@ -155,7 +155,7 @@ impl Text {
         }
     }
 
-    /// The text of these bytes. `None` exactly where they are no UTF-8 or too many.
+    /// The text of these bytes. `None` exactly if they are no UTF-8 or too many.
     pub fn from_vec(bytes: Vec<u8>) -> Option<Text>
         ensures valid { IsSome result ↔ IsText bytes.items }
         ensures value { IfSome result (λ text. text ≡ bytes.items) }

@@ -62,8 +62,8 @@ fn control_at(alloc: Global, kind: u8, payload: &[u8]) -> Result<Control, Payloa
     }
 }
 
-/// The control message that a payload of its kind spells. `Malformed` comes exactly where it spells
-/// none, and `Memory` where memory runs out for the name of a Hello.
+/// The control message that a payload of its kind spells. `Malformed` comes exactly if it spells
+/// none, and `Memory` if memory runs out for the name of a Hello.
 pub fn read_control(alloc: Global, kind: u8, payload: &[u8]) -> Result<Control, PayloadError>
     requires { IsControlKind kind }
     ensures found { IfOk result (SpellsControl kind payload.now) }
@@ -164,8 +164,8 @@ fn meta_at(alloc: Global, kind: u8, payload: &[u8]) -> Result<Meta, PayloadError
     }
 }
 
-/// The meta message that a payload of its kind spells. `Malformed` comes exactly where it spells
-/// none, and `Memory` where memory runs out for a name, a text or ids.
+/// The meta message that a payload of its kind spells. `Malformed` comes exactly if it spells
+/// none, and `Memory` if memory runs out for a name, a text or ids.
 pub fn read_meta(alloc: Global, kind: u8, payload: &[u8]) -> Result<Meta, PayloadError>
     requires { IsMetaKind kind }
     ensures found { IfOk result (SpellsMeta kind payload.now) }

@@ -33,7 +33,7 @@ fn do_rise(low: u8, ids: &[u8]) -> bool
     true
 }
 
-/// The ids that these bytes are, where they rise strictly within `low` to 254.
+/// The ids that these bytes are, if they rise strictly within `low` to 254.
 #[tactic(auto, using(crate::proofs::FieldLaws::rise_short))]
 pub(crate) fn read_ids(alloc: Global, low: u8, bytes: &[u8]) -> Result<Ids, PayloadError>
     ensures { Answers (Spells (λ ids. ids) (RiseFrom low) bytes.now) result }

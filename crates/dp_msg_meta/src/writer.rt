@@ -10,7 +10,7 @@ use crate::tails::put_both;
 use dp_fields::Field;
 use std::alloc::AllocError;
 
-/// Puts a message's fields at the end. Where memory runs out, some of their bytes may stand there.
+/// Puts a message's fields at the end. If memory runs out, some of their bytes may stand there.
 #[rattlefmt::skip]
 fn put_control(m: &Control, out: &mut Vec<u8>) -> Result<(), AllocError>
     ensures spelled { OnOk result (out.new.items ≡ out.old.items ++ control_payload m.now) }
@@ -31,7 +31,7 @@ fn put_control(m: &Control, out: &mut Vec<u8>) -> Result<(), AllocError>
 ///
 /// # Errors
 ///
-/// Where memory runs out. `out` is then as it was.
+/// If memory runs out. `out` is then as it was.
 pub fn write_control(m: &Control, out: &mut Vec<u8>) -> Result<(), AllocError>
     ensures appends { OnOk result (out.new.items ≡ out.old.items ++ control_payload m.now) }
     ensures short { length (control_payload m.now) ≤ 32 }
@@ -42,7 +42,7 @@ pub fn write_control(m: &Control, out: &mut Vec<u8>) -> Result<(), AllocError>
     out.extend_from_slice(&payload)
 }
 
-/// Puts a message's fields at the end. Where memory runs out, some of their bytes may stand there.
+/// Puts a message's fields at the end. If memory runs out, some of their bytes may stand there.
 #[rattlefmt::skip]
 fn put_meta(m: &Meta, out: &mut Vec<u8>) -> Result<(), AllocError>
     ensures spelled { OnOk result (out.new.items ≡ out.old.items ++ meta_payload m.now) }
@@ -71,7 +71,7 @@ fn put_meta(m: &Meta, out: &mut Vec<u8>) -> Result<(), AllocError>
 ///
 /// # Errors
 ///
-/// Where memory runs out. `out` is then as it was.
+/// If memory runs out. `out` is then as it was.
 pub fn write_meta(m: &Meta, out: &mut Vec<u8>) -> Result<(), AllocError>
     ensures appends { OnOk result (out.new.items ≡ out.old.items ++ meta_payload m.now) }
     // A Join may hold a name of 65,535 bytes.

@@ -49,8 +49,7 @@ abbrev pub waiting_tile : ℕ → ℕ → List Draw → Lists → ℕ → ℕ �
 waiting_tile width height commands lists col row =
     tile_after (on_tile width height commands col row) (listed_at lists col row)
 
--- the pixel at a place of a grid on a canvas of these sides, after all that waits on its tile,
--- where
+-- the pixel at a place of a grid on a canvas of these sides, after all that waits on its tile, if
 -- these commands are numbered
 abbrev pub waiting_pixel : ℕ → ℕ → List Draw → Lists → TileGrid → ℕ → ℕ → Channels
 waiting_pixel width height commands lists g x y =

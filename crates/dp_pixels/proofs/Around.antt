@@ -13,7 +13,7 @@ use Rattle.dp_pixels.specs.Dabs.{dab_rect}
 use Rattle.dp_pixels.specs.Feet.{around}
 
 module _ {X : Type 0} (square : X → Rect) where
-  -- the least rectangle around the squares, where there is one
+  -- the least rectangle around the squares, if there is one
   abbrev pub around_by : List X → Option Rect
   around_by [] = None
   around_by (dab ∷ dabs) = Some (fold joined (square dab) (map square dabs))
@@ -38,7 +38,7 @@ module _ {X : Type 0} (square : X → Rect) where
       ap around_by (take_more dabs k dab inside ∙ ap (λ d. take k dabs ++ d ∷ []) is)
       ∙ push_around (take k dabs) dab
 
--- the rectangle around dabs, where there are some
+-- the rectangle around dabs, if there are some
 pub around_some : (dabs : List _) (rect : Rect) → Some rect ≡ around_by dab_rect dabs
     → rect ≡ around dabs
 around_some [] rect is = absurd (none-some rect (sym is))

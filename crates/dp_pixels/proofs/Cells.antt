@@ -37,7 +37,7 @@ is_cell x left size x_fits left_fits short from before = record {
   value = omega (arith, ints);
 }
 
--- a round dab covers a place of its square where the cell is in the disc
+-- a round dab covers a place of its square if the cell is in the disc
 pub round_covers_cell : (dab : PlacedDab) (cells : Rect) (x y : ℤ) (i j : ℕ) → cells ≡ dab_rect dab
     → is_in cells x y ≡ true
     → pos i ≡ x -ℤ cells.x0 → pos j ≡ y -ℤ cells.y0 → is_in_disc dab.size (pos i) (pos j)

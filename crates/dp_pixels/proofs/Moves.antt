@@ -94,7 +94,7 @@ source_same width height sx sy w h across down x y across_is down_is =
           omega (arith, ints);
     })))
 
--- a place is in the target where the place moved back is in the source
+-- a place is in the target if the place moved back is in the source
 target_same : (sx sy across down : ℕ) (tx ty x y : ℤ)
     → is_in (rect_at tx ty across down) x y ≡ is_in (rect_at (pos sx) (pos sy) across down)
     (x -ℤ (tx -ℤ pos sx)) (y -ℤ (ty -ℤ pos sy))
@@ -165,7 +165,7 @@ old_pixel width height x y old in_x in_y =
     let has_y : ltb y height ≡ true = grind (arith, nat_tests) in
     rw (has_x, has_y) refl
 
--- where the source is empty nothing moves
+-- if the source is empty nothing moves
 pub moved_none : (width height sx sy w h across down : ℕ) (tx ty : ℤ) (x y : ℕ)
     (old : List Channels) → across ≡ min w (width - sx) → down ≡ min h (height - sy)
     → (across ≡ 0) ⊎ (down ≡ 0) → x < width → y < height

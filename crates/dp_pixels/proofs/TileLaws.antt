@@ -162,7 +162,7 @@ in_tiles width height col row repeat x y in_x in_y is =
     ≡ true = grind (arith, nat_tests) in
     rw (has_col, has_row, is_from, is_to) refl
 
--- the pixel at a place of the canvas, by a test that passes where its tile is between the two
+-- the pixel at a place of the canvas, by a test that passes if its tile is between the two
 pub tiles_put_by : (width height col row repeat : ℕ) (content : TileContent) (x y : ℤ)
     (old : Channels) (i j : ℕ) (t : Bool)
     → is_in (canvas_rect width height) x y ≡ true → unsigned_abs x ≡ i → unsigned_abs y ≡ j

@@ -34,7 +34,7 @@ image_color left top w h colors x y =
     then slice_get colors (image_index left top w x y)
     else None
 
--- the pixel after a dab, which blends the faded source where it covers the place
+-- the pixel after a dab, which blends the faded source if it covers the place
 abbrev pub dab_blended : Shape → Mode → Channels → PlacedDab → ℤ → ℤ → Channels → Channels
 dab_blended shape mode source dab x y old =
     if dab_covers shape dab x y then blend mode (fade source (from8 dab.opacity)) old else old
@@ -113,7 +113,7 @@ pixel_drawn width height op x y old =
 -- ---- from the old pixels at all places
 
 -- the pixel at a place of the canvas after MoveRect: the source, as far as it is on the canvas, is
--- clear, and where the place moved back is in it, the old pixel there is blended on that
+-- clear, and if the place moved back is in it, the old pixel there is blended on that
 abbrev pub moved : ℕ → ℕ → ℕ → ℕ → ℕ → ℕ → ℤ → ℤ → (ℤ → ℤ → Channels) → ℤ → ℤ → Channels
 moved width height sx sy w h tx ty old x y =
     let source = clipped (rect_at (pos sx) (pos sy) w h) (canvas_rect width height) in

@@ -11,12 +11,12 @@ abbrev pub is_side : ℤ → Bool
 is_side (pos n) = nat_le 1 n && nat_le n 4096
 is_side (negsuc n) = false
 
--- the length of a side, where it is one
+-- the length of a side, if it is one
 abbrev pub side : ℤ → ℕ
 side (pos n) = n
 side (negsuc n) = 0
 
--- the pixels on a canvas of the new sides, where each old pixel (x, y) stands at (x + left, y +
+-- the pixels on a canvas of the new sides, if each old pixel (x, y) stands at (x + left, y +
 -- top)
 abbrev pub pixels_shifted : ℕ → ℕ → List Channels → ℕ → ℕ → ℤ → ℤ → List Channels
 pixels_shifted width height pixels new_width new_height left top =

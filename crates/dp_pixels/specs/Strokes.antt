@@ -15,7 +15,7 @@ dabs_of_command (DabsRound layer x y r g b mode dabs) = placed_dabs x y dabs
 dabs_of_command (DabsSquare layer x y r g b mode dabs) = placed_dabs x y dabs
 dabs_of_command _ = []
 
--- how each dab of a command is drawn, where a mode has the command's number
+-- how each dab of a command is drawn, if a mode has the command's number
 abbrev pub brush_of : Draw → Option Brush
 brush_of (DabsRound layer x y r g b mode dabs) =
     option_map (λ m. record { shape = Round; mode = m; color = premultiplied r g b 255 })

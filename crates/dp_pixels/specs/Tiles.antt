@@ -37,7 +37,7 @@ content_at (Pixels pixels) x y = slice_get pixels (y % 64 * 64 + x % 64)
 abbrev pub is_tile_pixel : TilePixel → Bool
 is_tile_pixel p = nat_le p.r p.a && nat_le p.g p.a && nat_le p.b p.a && nat_le p.a 32768
 
--- a tile's pixel takes the place of the old one, where it is a pixel
+-- a tile's pixel takes the place of the old one, if it is a pixel
 abbrev pub replaced_by : TilePixel → Channels → Channels
 replaced_by p old = if is_tile_pixel p then record { r = p.r; g = p.g; b = p.b; a = p.a } else old
 
@@ -77,7 +77,7 @@ tile_x col k = col * 64 + k % 64
 abbrev pub tile_y : ℕ → ℕ → ℕ
 tile_y row k = row * 64 + k / 64
 
--- the k-th pixel of a tile, where all of them are of one colour, if one is given, and else are
+-- the k-th pixel of a tile, if all of them are of one colour, if one is given, and else are
 -- these
 abbrev pub tile_pixel : Option Channels → List Channels → ℕ → Channels
 tile_pixel (Some color) pixels k = color

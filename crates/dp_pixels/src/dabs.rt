@@ -119,7 +119,7 @@ fn is_in_disc(size: u8, i: u8, j: u8) -> bool
     across * across + down * down <= size as u32 * size as u32
 }
 
-/// The rectangle, with the places of another too where there is one.
+/// The rectangle, with the places of another too if there is one.
 fn extended(all: Option<Rect>, cells: Rect) -> Rect
     ensures { result ≡ option_map_or (λ rect. joined rect cells) all cells }
 {

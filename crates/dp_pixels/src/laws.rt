@@ -39,7 +39,7 @@ pub fn the_foot_tells_all()
         → drawn width height op old x y ≡ drawn width height op other x y }
 {}
 
-/// Two rectangles share a place exactly where some place is in both.
+/// Two rectangles share a place exactly if some place is in both.
 pub fn shared_places()
     ensures { (a b : Rect) → IsTrue (share_place a b)
         ↔ ((x : ℤ) × (y : ℤ) × IsTrue (is_in a x y) × IsTrue (is_in b x y)) }
@@ -82,7 +82,7 @@ pub fn squares_are_counted()
 {}
 
 /// A message of dabs changes each place by its dabs, one after the other, each drawn with the
-/// message's brush. Where no mode has its number the place stays.
+/// message's brush. If no mode has its number the place stays.
 pub fn messages_are_their_dabs()
     ensures drawn { (op : Draw) (brush : Brush) (x y : ℤ) (old : Channels)
         → brush_of op ≡ Some brush

@@ -41,7 +41,7 @@ impl Resize {
     }
 
     /// The resize of a canvas of these sides, each at most 4096 pixels, whose four sides move so
-    /// far outwards. `None` comes exactly where a new side would be none.
+    /// far outwards. `None` comes exactly if a new side would be none.
     pub fn of_sides(
         width: u32,
         height: u32,

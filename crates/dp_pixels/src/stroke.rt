@@ -26,7 +26,7 @@ pub struct Brush {
     pub color: Pixel,
 }
 
-/// How each dab of a command is drawn. `None` comes exactly where no mode has the command's number:
+/// How each dab of a command is drawn. `None` comes exactly if no mode has the command's number:
 /// such dabs change nothing.
 pub fn brush_of(command: &Draw) -> Option<Brush>
     requires { IsDabs command.now }
@@ -60,7 +60,7 @@ pub fn dabs_bounds(command: &Draw) -> Rect
 }
 
 /// Draws one dab on a region, in a list of pixels whose rows are `stride` long. The pixels of the
-/// region that are on the canvas change where the dab covers them, and all others stay.
+/// region that are on the canvas change if the dab covers them, and all others stay.
 pub fn draw_dab(brush: &Brush, dab: NearDab, region: &Region, stride: usize, pixels: &mut [Pixel])
     requires wide { region.now.width ≤ stride }
     requires long { region.now.height * stride ≤ length pixels.old }

@@ -17,7 +17,7 @@ use dp_msg_draw::{TileContent, TilePixel};
 /// The side of a tile, in pixels.
 const TILE: u64 = 64;
 
-/// A tile's pixel, where it is one.
+/// A tile's pixel, if it is one.
 fn pixel_of(p: TilePixel) -> Option<Pixel>
     ensures { result
         ≡ (if is_tile_pixel p then Some (record { r = p.r; g = p.g; b = p.b; a = p.a }) else None) }

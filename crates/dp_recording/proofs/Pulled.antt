@@ -142,7 +142,7 @@ again-new left now before after result = record {
   finished = λ is. absurd (subst GoesOn is tt);
 }
 
--- what is said of a reader's state holds where it is written otherwise
+-- what is said of a reader's state holds if it is written otherwise
 pub pulls-so : (left now : Option (List ℕ)) (before after : ℕ) (old is new : Phase)
     (result : Result (Option Entry) RecError) → old ≡ is
     → PullsNext left now before after old new result → PullsNext left now before after is new result

@@ -13,8 +13,8 @@ use Rattle.dp_recording.specs.Recordings.{EndsEarly, EndsRecording, EndsWithInpu
 use Rattle.dp_recording.specs.Recordings.{FaultMatchesError, HasReadOf, IsReading, limit_of}
 use Rattle.dp_recording.specs.Recordings.{measure_of}
 
--- the cause of an end is of this call: the input's end where it ended inside a frame, or a fault
--- that was counted where it is a fault
+-- the cause of an end is of this call: the input's end if it ended inside a frame, or a fault
+-- that was counted if it is a fault
 pub record IsOfCall (now : Option (List ℕ)) (before after : ℕ) (error : RecError) : Type 0 where
   pub inside : EndsWithInput now error
   pub fault : FaultMatchesError before after error

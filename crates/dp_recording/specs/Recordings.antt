@@ -140,7 +140,7 @@ GoesOn (Reading reader) = ¬ IsTrue reader.ended
 GoesOn Finished = ⊥
 GoesOn (Failed error) = ⊥
 
--- the input is at its end where reading it ended inside a frame
+-- the input is at its end if reading it ended inside a frame
 abbrev pub EndsWithInput : Option (List ℕ) → RecError → Type 0
 EndsWithInput left (Truncated at) = IsAtEnd left
 EndsWithInput left BadHeader = Unit {0}
@@ -179,7 +179,7 @@ pub record HoldsHeader (input : List ℕ) (left : Option (List ℕ)) (held : Lis
   pub few : IsShort short
   pub small : length piece ≤ 4096
 
--- the count of the input's faults where reading ended so: a fault raised it, and else it stays
+-- the count of the input's faults if reading ended so: a fault raised it, and else it stays
 abbrev pub FaultMatchesError : ℕ → ℕ → RecError → Type 0
 FaultMatchesError before now ReadFault = Rose before now
 FaultMatchesError before now BadHeader = now ≡ before

@@ -83,7 +83,7 @@ pub fn read_header(alloc: Global, bytes: &[u8]) -> Result<Header, HeaderError>
     }
 }
 
-/// The profile that the text of a header tells; `None` where it tells neither.
+/// The profile that the text of a header tells; `None` if it tells neither.
 fn read_profile(alloc: Global, text: &[u8]) -> Result<Option<Profile>, AllocError>
     ensures told { IfOk result (λ told. IfSome told (λ profile.
         TellsProfile text.now (name_of profile))) }

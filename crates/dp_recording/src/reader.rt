@@ -100,7 +100,7 @@ impl RecordingReader {
     }
 
     /// Gives the next entry; `None` at the end after a whole frame, and from then on. It reads
-    /// pieces of at most 4096 bytes, and only where no whole frame is held.
+    /// pieces of at most 4096 bytes, and only if no whole frame is held.
     ///
     /// # Errors
     ///

@@ -115,7 +115,7 @@ CountsFew-part weight kept a b draws draws' draws'' tiles tiles' tiles'' le coun
       few_tiles = omega (arith, counts.few_tiles, same_tiles, few.1);
     }
 
--- the savepoint of a Point, where it has come to that
+-- the savepoint of a Point, if it has come to that
 pub saved-run : {B Op : Type 0} → (draw : B → Op → B) (kept : List (KeptAct Op)) (from old : B)
     (run : Running B) (n : ℕ) → IsRunning draw kept from run → (run.start < n → run.at ≡ n)
     → (if nat_lt run.start n then run.board else old) ≡ saved_anew draw kept run.start from n old
@@ -213,7 +213,7 @@ CountsFew-from weight r mark kept draws draws' draws'' tiles tiles' tiles'' kept
     (subst (λ n. CountsFew weight (commands_among kept) draws' draws'' n tiles'') same_tiles
     counts))
 
--- the savepoints after an act, where those of the last Points are kept
+-- the savepoints after an act, if those of the last Points are kept
 pub saves-made : {B Op : Type 0} → (table : Table) (act : Act Op) (board : B)
     (old room new : List (PointSave B)) (save : Option (PointSave B)) (depth window : ℕ)
     → new ≡ last_few depth (room ++ option_to_list save)

@@ -97,7 +97,7 @@ abbrev SavedIn : {B Op : Type 0}
     → (B → Op → B) → B → ℕ → List (UserAct Op) → PointSave B → Type 0
 SavedIn draw blank depth acts save = save.board ≡ board_at draw blank depth acts save.point
 
--- the savepoint of an act, where it is a Point
+-- the savepoint of an act, if it is a Point
 save_of-in : {B Op : Type 0} → (draw : B → Op → B) (blank : B) (depth : ℕ)
     (acts : List (UserAct Op)) (position : ℕ) (board : B) (act : Act Op)
     → board ≡ board_at draw blank depth acts position
@@ -416,7 +416,7 @@ StandsFor-redrawn laws draw blank depth acts a r group board saves sender known 
           r.board a.act group some);
     }
 
--- what is drawn for an act, where it moves a group or not
+-- what is drawn for an act, if it moves a group or not
 drawn_for : {B Op : Type 0} → Laws Op → (draw : B → Op → B) (blank : B) (depth : ℕ)
     (acts : List (UserAct Op)) (a : UserAct Op) (r : Rolled B Op) (o : Option ℕ) (board : B)
     (saves : List (PointSave B)) → a.user < 256 → concerned a < 256
@@ -536,7 +536,7 @@ depth-next position (Draw op) w = refl
 depth-next position (Depth d) w = refl
 depth-next position Other w = refl
 
--- the positions after an act that comes next, where the acts before the first that an act may need
+-- the positions after an act that comes next, if the acts before the first that an act may need
 -- are let go
 pub KeepsReach-next : {B Op : Type 0} → (table : Table) (a : UserAct Op) (board : B)
     (saves : List (PointSave B)) (base kept base' kept' : ℕ)
@@ -561,7 +561,7 @@ points-anew draw kept start from [] = refl
 points-anew draw kept start from (save ∷ saves) =
     ap (λ ps. save.point ∷ ps) (points-anew draw kept start from saves)
 
--- the savepoints that an act leaves are of the same Points, where it moves a group or not
+-- the savepoints that an act leaves are of the same Points, if it moves a group or not
 points-drawn : {B Op : Type 0} → (draw : B → Op → B) (r : Rolled B Op) (act : Act Op)
     (o : Option Mark) (board : B) (saves : List (PointSave B))
     → IsDrawnFor draw r act o board saves → points_of saves ≡ points_of r.saves
@@ -570,7 +570,7 @@ points-drawn draw r act (Some mark) board saves made =
     ap points_of made.finished.saves_are
     ∙ points-anew draw (map (marked mark) (kept_from r mark)) mark.group made.from r.saves
 
--- what an act makes of it fits it, where there is room
+-- what an act makes of it fits it, if there is room
 pub FitsOn-made : {B Op : Type 0} → (draw : B → Op → B) (r : Rolled B Op) (a : UserAct Op)
     (next : Next B Op) → IsKnown r a → IsNext draw r a next → 1 ≤ r.spare → FitsOn next r
 FitsOn-made draw r a next known is room =

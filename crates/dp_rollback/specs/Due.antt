@@ -11,7 +11,7 @@ use Rattle.dp_board.specs.Strokes.{moved_by}
 use Rattle.dp_board.specs.Commands.{command_of, all_commands}
 use Rattle.dp_rollback.specs.Rollback.{Rolled, StandsFor}
 
--- the commands that an act after others may draw, where it moves the group `moved`: its own, or
+-- the commands that an act after others may draw, if it moves the group `moved`: its own, or
 -- those from the Point of that group on
 abbrev pub due_by : {Op : Type 0} → List (UserAct Op) → Act Op → Option ℕ → List Op
 due_by acts (Draw op) moved = op ∷ []
@@ -22,7 +22,7 @@ due_by acts act (Some group) = all_commands (drop group acts)
 abbrev pub due_commands : {Op : Type 0} → ℕ → List (UserAct Op) → UserAct Op → List Op
 due_commands depth acts a = due_by acts a.act (moved_by depth acts a)
 
--- what the counters show after an act came to a rollback, also where it was refused: they rise, and
+-- what the counters show after an act came to a rollback, also if it was refused: they rise, and
 -- for each history that the rollback stands for, at most the commands that are due were drawn
 pub record CountsDue {B Op : Type 0} (draw : B → Op → B) (weight : Op → ℕ) (r : Rolled B Op)
     (a : UserAct Op) (old_draws new_draws old_tiles new_tiles : ℕ) : Type 0 where
@@ -32,7 +32,7 @@ pub record CountsDue {B Op : Type 0} (draw : B → Op → B) (weight : Op → �
       → StandsFor draw blank depth acts r
       → CountsFew weight (due_commands depth acts a) old_draws new_draws old_tiles new_tiles
 
--- what an act does to the board, where it moves the group `moved`
+-- what an act does to the board, if it moves the group `moved`
 abbrev pub change_by : {Op : Type 0} → Act Op → Option ℕ → Change
 change_by (Draw op) moved = Drew
 change_by act None = Nothing

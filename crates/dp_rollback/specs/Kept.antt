@@ -35,11 +35,11 @@ drawn_among kept = flat_map drawn_command kept
 abbrev pub commands_among : {Op : Type 0} → List (KeptAct Op) → List Op
 commands_among kept = flat_map (λ k. command_of k.act.act true) kept
 
--- the act, with the flag of the mark where it joined the group of the mark
+-- the act, with the flag of the mark if it joined the group of the mark
 abbrev pub marked : {Op : Type 0} → Mark → KeptAct Op → KeptAct Op
 marked mark k = record k { drawn = flag_with mark.user mark.group mark.drawn k.join k.drawn }
 
--- the acts after a move of a group, where one moved
+-- the acts after a move of a group, if one moved
 abbrev pub marked_all : {Op : Type 0} → Option Mark → List (KeptAct Op) → List (KeptAct Op)
 marked_all None kept = kept
 marked_all (Some mark) kept = map (marked mark) kept

@@ -22,7 +22,7 @@ use Rattle.dp_rollback.specs.Runs.{IsDrawnAnew}
 abbrev pub mark_by : {Op : Type 0} → UserAct Op → ℕ → Mark
 mark_by a group = record { user = concerned a; group = group; drawn = is_redo a.act }
 
--- the mark of an act, where it moves a group
+-- the mark of an act, if it moves a group
 abbrev pub mark_in : {Op : Type 0} → Table → UserAct Op → Option Mark
 mark_in table a = option_map (mark_by a) (moved_in table a)
 
@@ -43,19 +43,19 @@ pub record IsRedrawn {B Op : Type 0} (draw : B → Op → B) (r : Rolled B Op) (
   pub finished : IsDrawnAnew draw (map (marked mark) (kept_from r mark)) from mark.group r.saves
       board saves
 
--- the board has the command of an act, where it is one, and all savepoints stay
+-- the board has the command of an act, if it is one, and all savepoints stay
 pub record IsDrawnLast {B Op : Type 0} (draw : B → Op → B) (r : Rolled B Op) (act : Act Op)
     (board : B) (saves : List (PointSave B)) : Type 0 where
   pub drawn : board ≡ fold draw r.board (command_of act true)
   pub saves_stay : saves ≡ r.saves
 
--- what is drawn for an act: all anew from a savepoint on, where it moves a group
+-- what is drawn for an act: all anew from a savepoint on, if it moves a group
 abbrev pub IsDrawnFor : {B Op : Type 0}
     → (B → Op → B) → Rolled B Op → Act Op → Option Mark → B → List (PointSave B) → Type 0
 IsDrawnFor draw r act None board saves = IsDrawnLast draw r act board saves
 IsDrawnFor draw r act (Some mark) board saves = IsRedrawn draw r mark board saves
 
--- the savepoint of an act at a position, where it is a Point that comes on this board
+-- the savepoint of an act at a position, if it is a Point that comes on this board
 abbrev pub save_of : {B Op : Type 0} → ℕ → B → Act Op → List (PointSave B)
 save_of position board Point = (record { point = position; board = board }) ∷ []
 save_of position board act = []
@@ -96,7 +96,7 @@ pub record IsNext {B Op : Type 0} (draw : B → Op → B) (r : Rolled B Op) (a :
   pub made : IsMade draw r a.act (mark_in r.table a) next.board next.saves
   pub later : oldest_in r.table ≤ oldest_in (table_with next.strokes r.table)
 
--- what an act makes of it that moves no group: it has the command of the act, where it is one
+-- what an act makes of it that moves no group: it has the command of the act, if it is one
 abbrev pub next_here : {B Op : Type 0} → (B → Op → B) → Rolled B Op → UserAct Op → Next B Op
 next_here draw r a = record {
   act = kept_in r.table a;

@@ -32,7 +32,7 @@ pub record Rolled (B Op : Type 0) : Type 0 where
   pub saves : List (PointSave B)
   pub spare : ℕ
 
--- what an act makes of it: the act itself, the mark where it moves a group, the strokes, the board,
+-- what an act makes of it: the act itself, the mark if it moves a group, the strokes, the board,
 -- and the savepoints
 pub record Next (B Op : Type 0) : Type 0 where
   pub act : KeptAct Op

@@ -12,7 +12,7 @@ pub record Running (B : Type 0) : Type 0 where
   pub at : ℕ
   pub board : B
 
--- the board at a position, from the savepoint `from` of the Point `start` on, where these acts come
+-- the board at a position, from the savepoint `from` of the Point `start` on, if these acts come
 -- from that Point on
 abbrev pub run_to : {B Op : Type 0} → (B → Op → B) → List (KeptAct Op) → ℕ → B → ℕ → B
 run_to draw kept start from position = fold draw from (drawn_among (take (position - start) kept))

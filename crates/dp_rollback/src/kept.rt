@@ -29,7 +29,7 @@ pub struct Mark {
 }
 
 impl Mark {
-    /// The flag of an act that joined so, where it was `old`.
+    /// The flag of an act that joined so, if it was `old`.
     pub(crate) fn flag(self, join: Join, old: bool) -> bool
         ensures { result ≡ flag_with self.user self.group self.drawn join old }
     {

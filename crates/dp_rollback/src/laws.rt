@@ -13,7 +13,7 @@ pub fn few_are_due<Op>()
     ensures moved { FewAreDue Op }
 {}
 
-/// With one more act, which moves no group, the replay has the command of the act drawn, where it
+/// With one more act, which moves no group, the replay has the command of the act drawn, if it
 /// is one.
 pub fn replay_goes_on<B, Op>()
     ensures { ReplayGoesOn B Op }

@@ -14,7 +14,7 @@ use std::alloc::AllocError;
 use std::sync::Arc;
 use std::sync::ledger::Ledger;
 
-/// Draws the command of an act, where it is one and is to be drawn.
+/// Draws the command of an act, if it is one and is to be drawn.
 ///
 /// # Errors
 ///
@@ -37,7 +37,7 @@ pub fn draw_act<B: Board, D: Ledger, T: Ledger>(
     }
 }
 
-/// Draws the command of an act that comes next, where it is one. The board is then no more what it
+/// Draws the command of an act that comes next, if it is one. The board is then no more what it
 /// was saved as last.
 ///
 /// # Errors

@@ -99,7 +99,7 @@ fn change_by_draw(drawn: bool) -> Change
     if drawn { Change::Drew } else { Change::Nothing }
 }
 
-/// The mark of an act, where it moves a group.
+/// The mark of an act, if it moves a group.
 #[tactic(auto, using(crate::proofs::RunLemmas::moved_is_eligible))]
 pub fn mark_of<Op>(table: &StrokeTable, act: &UserAct<Op>) -> Option<Mark>
     ensures value { result ≡ mark_in table.now act.now }
@@ -123,7 +123,7 @@ struct Drawn<B> {
 }
 
 impl<B: Board> Rollback<B> {
-    /// A board on which nothing was drawn yet, where undo and redo reach the last `depth` points.
+    /// A board on which nothing was drawn yet, if undo and redo reach the last `depth` points.
     pub fn new(alloc: Global, blank: B, depth: u32) -> Result<Self, AllocError>
         ensures { IfOk result (StandsFor B.drawn blank depth []) }
     {
@@ -383,7 +383,7 @@ impl<B: Board> Rollback<B> {
         Ok(Drawn { board, saves })
     }
 
-    /// The savepoint of an act that comes next, where it is a point.
+    /// The savepoint of an act that comes next, if it is a point.
     fn saved_for<D: Ledger, T: Ledger>(
         &self,
         act: &Act<B::Op>,
@@ -409,7 +409,7 @@ impl<B: Board> Rollback<B> {
         )
     }
 
-    /// The board with the command of an act, where it is one.
+    /// The board with the command of an act, if it is one.
     fn drawn_last<D: Ledger, T: Ledger>(
         &self,
         act: &Act<B::Op>,

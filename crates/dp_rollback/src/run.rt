@@ -40,7 +40,7 @@ impl<B> Model for Run<B> {
 }
 
 impl<B: Board> Run<B> {
-    /// Draws on to a position, where that comes later.
+    /// Draws on to a position, if that comes later.
     ///
     /// # Errors
     ///
@@ -76,7 +76,7 @@ impl<B: Board> Run<B> {
         Ok(())
     }
 
-    /// The savepoint of a point, where it has come to that: `old`, where the point comes no later
+    /// The savepoint of a point, if it has come to that: `old`, if the point comes no later
     /// than the start.
     fn saved<D: Ledger, T: Ledger>(
         &self,
@@ -98,7 +98,7 @@ impl<B: Board> Run<B> {
         }
     }
 
-    /// The savepoints of points in order: as they were, or drawn anew where they come later than
+    /// The savepoints of points in order: as they were, or drawn anew if they come later than
     /// the start.
     ///
     /// # Errors
@@ -144,7 +144,7 @@ impl<B: Board> Run<B> {
     }
 
     /// The board with all acts, and the savepoints of points in order: as they were, or drawn anew
-    /// where they come later than the start.
+    /// if they come later than the start.
     ///
     /// # Errors
     ///

@@ -50,7 +50,7 @@ pub(crate) fn copy_saves<B: Drop>(
     Ok(copies)
 }
 
-/// A board as it is now: what it was saved as last, where it has not changed since.
+/// A board as it is now: what it was saved as last, if it has not changed since.
 fn save_board<B: Board, D: Ledger, T: Ledger>(
     alloc: Global,
     board: &B,
@@ -69,7 +69,7 @@ fn save_board<B: Board, D: Ledger, T: Ledger>(
     }
 }
 
-/// The savepoint of an act that comes next, where it is a point.
+/// The savepoint of an act that comes next, if it is a point.
 pub(crate) fn save_of<B: Board, D: Ledger, T: Ledger>(
     alloc: Global,
     position: usize,
@@ -95,7 +95,7 @@ pub(crate) fn save_of<B: Board, D: Ledger, T: Ledger>(
     })
 }
 
-/// Goes on with the board of a savepoint as the last one that was saved, where there is one.
+/// Goes on with the board of a savepoint as the last one that was saved, if there is one.
 pub(crate) fn note_save<B: Drop>(
     last: &mut Option<Arc<B>>,
     save: &Option<Save<B>>,
@@ -120,7 +120,7 @@ pub(crate) fn depth_after<Op>(depth: usize, act: &Act<Op>) -> usize
     }
 }
 
-/// Adds a savepoint, where there is one, and keeps those of the last points alone. It takes no
+/// Adds a savepoint, if there is one, and keeps those of the last points alone. It takes no
 /// memory.
 pub(crate) fn put_save<B: Drop>(saves: &mut Vec<Save<B>>, save: Option<Save<B>>, depth: usize)
     requires room { vec_len saves.old < vec_capacity saves.old }
@@ -133,7 +133,7 @@ pub(crate) fn put_save<B: Drop>(saves: &mut Vec<Save<B>>, save: Option<Save<B>>,
     drop_first(saves, count);
 }
 
-/// The savepoint of a point, where it has one.
+/// The savepoint of a point, if it has one.
 pub(crate) fn save_at<B>(saves: &[Save<B>], point: usize) -> Option<&Save<B>>
     ensures found { IfSome result
         (λ save. (save.now.point ≡ point) × Contains saves.now save.now) }

@@ -23,7 +23,7 @@ use Rattle.dp_screen.specs.Screen.{ScreenGoesOn, Screened, but_for_room}
 
 -- ---- what an act makes of the confirmed board
 
--- an act that moves no group draws its command, where it is one
+-- an act that moves no group draws its command, if it is one
 unmoved : {B Op : Type 0} (draw : B → Op → B) (before now : B) (act : Act Op)
     → now ≡ fold draw before (command_of act true) → Became draw before now act (change_by act None)
 unmoved draw before now Point is = is
@@ -57,7 +57,7 @@ pub only_moves : {Op : Type 0} (depth : ℕ) (acts : List (UserAct Op)) (a : Use
     → MovesBy (change_of depth acts a) a.act
 only_moves depth acts a = moves_by (strokes depth (concerned a) acts) a.act
 
--- where one moves a group, nothing is said of the board before
+-- if one moves a group, nothing is said of the board before
 moved_became : {B Op : Type 0} (draw : B → Op → B) (before now : B) (act : Act Op) (group : ℕ)
     (s : Strokes) → moved s act ≡ Some group
     → Became draw before now act (change_by act (Some group))
@@ -140,7 +140,7 @@ pub put_board : {B Op : Type 0} (next : Next B Op) (old new : Rolled B Op) (boar
 put_board next old new board after ready =
     ready ∙ sym (ap (λ (r : Rolled _ _). r.board) after)
 
--- the fork goes on where it was settled on the board that is made ready
+-- the fork goes on if it was settled on the board that is made ready
 pub fork_goes_on : {B Op : Type 0} (is_board : B → Type 0) (draw : B → Op → B) (a : UserAct Op)
     (own : Own) (old : Rolled B Op) (fork fork' : Forked B Op) (shown now : B) (change : Change)
     → shown ≡ now
@@ -191,7 +191,7 @@ counts_both weight first second draws draws' draws'' tiles tiles' tiles'' few mo
       few_tiles = omega (arith, tiles_all, few.few_tiles, more.few_tiles);
     }
 
--- whatever it stands for, no more was drawn than is due, where the confirmed board alone was drawn
+-- whatever it stands for, no more was drawn than is due, if the confirmed board alone was drawn
 -- on
 pub counts_due_first : {B Op : Type 0} (is_board : B → Type 0) (draw : B → Op → B)
     (weight : Op → ℕ) (apart : Op → Op → Bool) (a : UserAct Op) (own : Own) (r : Rolled B Op)
@@ -207,7 +207,7 @@ counts_due_first {B} {Op} is_board draw weight apart a own r f s draws draws' ti
     (due_on_fork apart a.act (change_of depth acts a) own f.acts) draws draws' tiles tiles'
     (few blank depth acts (with_room of.stands)))
 
--- the same, where both were
+-- the same, if both were
 pub counts_due_both : {B Op : Type 0} (is_board : B → Type 0) (draw : B → Op → B)
     (weight : Op → ℕ) (apart : Op → Op → Bool) (a : UserAct Op) (own : Own) (change : Change)
     (r : Rolled B Op) (f : Forked B Op) (s : Screened B Op)
@@ -230,7 +230,7 @@ counts_due_both {B} {Op} is_board draw weight apart a own change r f s draws dra
     (subst (λ (x : Change). CountsFew weight (due_on_fork apart a.act x own f.acts) draws' draws''
     tiles' tiles'') (changes blank depth acts st) more))
 
--- where nothing is due, nothing is counted
+-- if nothing is due, nothing is counted
 pub no_draws : {Op : Type 0} (weight : Op → ℕ) (draws draws' tiles tiles' : ℕ)
     → CountsFew weight [] draws draws' tiles tiles' → draws' ≡ draws
 no_draws weight draws draws' tiles tiles' few = omega (arith, few.draws_rise, few.few_draws)

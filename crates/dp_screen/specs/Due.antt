@@ -13,13 +13,13 @@ use Rattle.dp_rollback.specs.Due.{change_of, due_commands}
 use Rattle.dp_screen.specs.Screen.{Screened, IsScreenOf}
 
 -- the commands that an act after a history may draw: those on the confirmed board, and those on the
--- fork's, where `said` isn't answered
+-- fork's, if `said` isn't answered
 abbrev pub due : {Op : Type 0} → (Op → Op → Bool) → ℕ → List (UserAct Op) → UserAct Op → Own
     → List (Act Op) → List Op
 due apart depth acts a own said =
     due_commands depth acts a ++ due_on_fork apart a.act (change_of depth acts a) own said
 
--- what the counters show after an act came, also where it was refused: at most the commands that
+-- what the counters show after an act came, also if it was refused: at most the commands that
 -- are due were drawn
 abbrev pub CountsOnBoth : {B Op : Type 0} → (B → Type 0) → (B → Op → B) → (Op → ℕ)
     → (Op → Op → Bool) → UserAct Op → Own → Screened B Op → ℕ → ℕ → ℕ → ℕ → Type 0

@@ -37,7 +37,7 @@ impl<B: Board> Model for Screen<B> {
 }
 
 impl<B: Board> Screen<B> {
-    /// A screen before the first act, where undo and redo reach the last `depth` points.
+    /// A screen before the first act, if undo and redo reach the last `depth` points.
     pub fn new(alloc: Global, blank: B, depth: u32) -> Result<Self, AllocError>
         ensures screen { IfOk result (IsScreenOf B.is_board B.drawn blank depth []) }
         ensures pending { IfOk result (λ screen. screen.fork.acts ≡ []) }

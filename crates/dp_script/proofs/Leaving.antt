@@ -140,7 +140,7 @@ long_counts n (b ∷ more) long = by_test (b == 35) long
     by_test true long = cc (long)
     by_test false long = rw (eqb-suc-zero (length more)) refl
 
--- where no ended line is held, a rest that is too long is the next line
+-- if no ended line is held, a rest that is too long is the next line
 rest_is_long : (held : Held) → ended_from held ≡ [] → IsTrue (is_overlong (open_rest held.bytes))
     → NextIsLong held (held.count + length (ended held.bytes) + 1)
 rest_is_long held none long = record {

@@ -33,7 +33,7 @@ pub lines_from_parts : (held : Held)
 lines_from_parts held = numbered-append held.count (ended held.bytes)
     (if_any (open_rest held.bytes))
 
--- where only lines were taken that are passed over, the same lines are to come
+-- if only lines were taken that are passed over, the same lines are to come
 pub same_to_come : (old new : Held) → ended_from old ≡ ended_from new
     → new.count + length (ended new.bytes) ≡ old.count + length (ended old.bytes)
     → open_rest new.bytes ≡ open_rest old.bytes → lines_from new ≡ lines_from old

@@ -124,7 +124,7 @@ reading_full S D F law limit all more held start now few reading =
       has = reading.has;
     }
 
--- ---- where nothing more is fed
+-- ---- if nothing more is fed
 
 -- a line is given and done
 pub ending_further : {X : Type 0} {S : List Line → Line → Type 0}

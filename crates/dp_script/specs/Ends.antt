@@ -7,7 +7,7 @@ use Rattle.dp_script.specs.declared.machine.ScriptEnd.{ScriptEnd}
 use Rattle.dp_script.specs.declared.machine.ScriptEnd.TheVariants.{Done, BadLine, ReadFault, Long}
 use Rattle.dp_script.specs.declared.machine.ScriptEnd.TheVariants.{Memory, Ended}
 
--- P holds where the line is no step
+-- P holds if the line is no step
 abbrev pub IfNoStep : {E : Type 0} → Type 0 → Undone E → Type 0
 IfNoStep P undone.NoStep = P
 IfNoStep P (undone.Ended end) = ⊤

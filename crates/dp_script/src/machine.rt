@@ -55,7 +55,7 @@ pub trait LineMachine<O, D, T>: StepRule {
     ///
     /// # Errors
     ///
-    /// `NoStep` where the line is no step after the lines that were done, `Ended` where it ends the
+    /// `NoStep` if the line is no step after the lines that were done, `Ended` if it ends the
     /// run.
     fn do_line(
         &mut self,

@@ -10,7 +10,7 @@ use crate::held::do_given;
 use crate::{LineMachine, ScriptEnd};
 use dp_lines::{LineError, Lines};
 
-/// Does each line that is left where nothing more is fed.
+/// Does each line that is left if nothing more is fed.
 pub(crate) fn do_rest<O, D, T, M: LineMachine<O, D, T>>(
     lines: &mut Lines,
     machine: &mut M,

@@ -19,9 +19,9 @@ use std::alloc::Global;
 ///
 /// # Errors
 ///
-/// It ends with `BadLine` at the first line that is no step, with `Long` where the input has more
-/// bytes than count, with `ReadFault` where it failed, with `Memory` where memory ran out for a
-/// line, and with `Ended` where a line ended the run.
+/// It ends with `BadLine` at the first line that is no step, with `Long` if the input has more
+/// bytes than count, with `ReadFault` if it failed, with `Memory` if memory ran out for a
+/// line, and with `Ended` if a line ended the run.
 ///
 /// The rule: docs/protocol.md, "Lines".
 pub fn run_lines<I: Source, O, D, T, M: LineMachine<O, D, T>>(

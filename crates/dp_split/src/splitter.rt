@@ -50,7 +50,7 @@ impl Splitter {
     ///
     /// # Errors
     ///
-    /// Where memory runs out. Nothing has changed then.
+    /// If memory runs out. Nothing has changed then.
     pub fn feed(&mut self, bytes: &[u8]) -> Result<(), AllocError>
         requires { self.old.at + length self.old.held + length bytes.now < 2 ^ 64 }
         ensures ok { OnOk result (self.new.held ≡ self.old.held ++ bytes.now) }
@@ -64,7 +64,7 @@ impl Splitter {
     ///
     /// # Errors
     ///
-    /// Where memory runs out. Nothing has changed then.
+    /// If memory runs out. Nothing has changed then.
     pub fn take_frame(&mut self) -> Result<Option<Frame>, AllocError>
         // What was held begins with the frame, and the rest is kept.
         ensures prefix { IfOk result (λ taken. IfSome taken
@@ -73,11 +73,11 @@ impl Splitter {
         ensures raised { IfOk result (λ taken. IfSome taken
             (λ f. self.new.at ≡ self.old.at + length (spelling f))) }
 
-        // There is none only where no whole frame is held.
+        // There is none only if no whole frame is held.
         ensures none { IfOk result (λ taken. IfNone taken (HoldsNoFrame self.old.held)) }
         ensures kept { IfOk result (λ taken. IfNone taken (self.new ≡ self.old)) }
 
-        // It asks for memory only where a whole frame is held.
+        // It asks for memory only if a whole frame is held.
         ensures memory { OnErr result (¬ HoldsNoFrame self.old.held) }
         ensures err { OnErr result (self.new ≡ self.old) }
 

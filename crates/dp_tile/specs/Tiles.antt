@@ -12,7 +12,7 @@ use Rattle.dp_blend.specs.Canvas.{below, canvas_of, pixel_at}
 unfoldable pub tile_of : Channels → List Channels
 tile_of p = replicate 4096 p
 
--- where there is a colour, all these pixels are of it
+-- if there is a colour, all these pixels are of it
 abbrev pub IsOfColor : Option Channels → List Channels → Type 0
 IsOfColor color pixels = ForSome color (λ p. pixels ≡ tile_of p)
 
@@ -21,7 +21,7 @@ abbrev pub tile_pixels : Option Channels → List Channels → List Channels
 tile_pixels (Some p) pixels = tile_of p
 tile_pixels None pixels = pixels
 
--- a tile has room for its 4096 pixels, and holds them where it isn't of one colour
+-- a tile has room for its 4096 pixels, and holds them if it isn't of one colour
 pub record IsTile (color : Option Channels) (room : ℕ) (held : List Channels) : Type 0 where
   pub enough : 4096 ≤ room
   pub count : length (tile_pixels color held) ≡ 4096
@@ -99,7 +99,7 @@ part_of_grid g x y count = map (λ i. grid_pixel g (x + i) y) (below count)
 abbrev pub shows : List Channels → Bool
 shows cell = list_any (λ p. not (p.r == 0 && p.g == 0 && p.b == 0 && p.a == 0)) cell
 
--- the tiles that a cell needs: one where it shows something
+-- the tiles that a cell needs: one if it shows something
 abbrev pub tiles_for : List Channels → ℕ
 tiles_for cell = if shows cell then 1 else 0
 

@@ -76,7 +76,7 @@ pub(crate) fn paint_area<P: TilePainter, T: Ledger>(
     paint_rows(&work, area.top, &mut rows[top..bottom], palette, tiles)
 }
 
-// The colour of all tiles of a row after it is painted, where all of the row is painted and that is
+// The colour of all tiles of a row after it is painted, if all of the row is painted and that is
 // known.
 fn color_after<P: TilePainter>(work: &Work<P>, row: u32, cells: &Row) -> Option<Pixel>
     requires row { row < 64 }

@@ -76,7 +76,7 @@ impl Cells {
         }
     }
 
-    // Makes the list of the rows this grid's alone: a copy, where others have it too.
+    // Makes the list of the rows this grid's alone: a copy, if others have it too.
     fn own(&mut self, alloc: Global) -> Result<(), AllocError>
         ensures { self.new ≡ self.old }
     {
@@ -202,7 +202,7 @@ fn share_rows(alloc: Global, rows: &[Row]) -> Result<Vec<Row>, AllocError>
     Ok(copies)
 }
 
-// Makes the rows the caller's alone: a copy of the list, where others have it too.
+// Makes the rows the caller's alone: a copy of the list, if others have it too.
 fn own_rows(alloc: Global, rows: &mut Arc<Vec<Row>>) -> Result<(), AllocError>
     ensures { rows.new.value.items ≡ rows.old.value.items }
 {

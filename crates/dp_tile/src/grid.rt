@@ -153,7 +153,7 @@ impl Grid {
         }
     }
 
-    /// The colour of all pixels of the tile at a column and a row, where that is known.
+    /// The colour of all pixels of the tile at a column and a row, if that is known.
     pub fn tile_color(&self, col: u32, row: u32) -> Option<Pixel>
         requires col { col < self.now.cols }
         requires row { row < self.now.rows }
@@ -163,7 +163,7 @@ impl Grid {
         slot.color()
     }
 
-    /// Reads the tile at a column and a row: gives its colour where it is known to be of one, and
+    /// Reads the tile at a column and a row: gives its colour if it is known to be of one, and
     /// else copies its pixels.
     pub fn read_tile(&self, col: u32, row: u32, pixels: &mut [Pixel]) -> Option<Pixel>
         requires col { col < self.now.cols }
@@ -176,7 +176,7 @@ impl Grid {
         slot.read(pixels)
     }
 
-    /// The tile at a column and a row. `None` comes only where it shows nothing.
+    /// The tile at a column and a row. `None` comes only if it shows nothing.
     pub fn tile(&self, col: u32, row: u32) -> Option<&Tile>
         requires col { col < self.now.cols }
         requires row { row < self.now.rows }
@@ -205,7 +205,7 @@ impl Grid {
     }
 
     /// Paints the tile at a column and a row. Other grids that shared it keep the old one. A tile
-    /// is made only where it isn't of one colour, or where its colour is none of the last ones.
+    /// is made only if it isn't of one colour, or where its colour is none of the last ones.
     ///
     /// # Errors
     ///

@@ -33,7 +33,7 @@ pub trait TilePainter {
         ensures { KnownChange result color (painted self.now col row) };
 
     /// What it does to each tile of a row of tiles, from the column `left` on before `right`, as
-    /// far as it is known where all their pixels are of this colour.
+    /// far as it is known if all their pixels are of this colour.
     fn change_row(&self, row: u32, left: u32, right: u32, color: Pixel) -> TileChange
         requires row { row < 64 }
         requires order { left < right }

@@ -55,7 +55,7 @@ impl Palette {
         self.alloc
     }
 
-    // A slot of this colour. A tile is made where no slot of the colour is kept, and none for the
+    // A slot of this colour. A tile is made if no slot of the colour is kept, and none for the
     // clear colour.
     #[tactic(auto, using(crate::proofs::Shows::shows_color))]
     #[inline(never)]
@@ -87,7 +87,7 @@ impl Palette {
         Ok(other)
     }
 
-    // A row of so many slots of this colour. It is made where none is kept.
+    // A row of so many slots of this colour. It is made if none is kept.
     #[inline(never)]
     pub(crate) fn row<T: Ledger>(
         &mut self,

@@ -53,7 +53,7 @@ impl Row {
         self.slots.len()
     }
 
-    // The colour of all its pixels, where it has a slot and the colour of each is known.
+    // The colour of all its pixels, if it has a slot and the colour of each is known.
     pub(crate) fn color(&self) -> Option<Pixel>
         ensures { IfSome result (λ p. self.now ≡ replicate (length self.now) (tile_of p)) }
     {
@@ -153,7 +153,7 @@ fn share_slots(alloc: Global, slots: &[Slot]) -> Result<Vec<Slot>, AllocError>
     Ok(copies)
 }
 
-// Makes the slots the caller's alone: a copy of the list, where others have it too.
+// Makes the slots the caller's alone: a copy of the list, if others have it too.
 #[inline(never)]
 pub(crate) fn own_slots(alloc: Global, slots: &mut Arc<Vec<Slot>>) -> Result<(), AllocError>
     ensures { slots.new.value.items ≡ slots.old.value.items }

@@ -17,7 +17,7 @@ use std::marker::Model;
 use std::sync::Arc;
 use std::sync::ledger::Ledger;
 
-/// A tile, or none where all its pixels are clear. It is seen as the tile's pixels.
+/// A tile, or none if all its pixels are clear. It is seen as the tile's pixels.
 #[derive(Drop)]
 pub(crate) struct Slot {
     pub tile: Option<Arc<Tile>>,
@@ -74,7 +74,7 @@ impl Slot {
         }
     }
 
-    // The colour of all its pixels, where that is known.
+    // The colour of all its pixels, if that is known.
     pub(crate) fn color(&self) -> Option<Pixel>
         ensures { IsOfColor result self.now }
     {
@@ -108,7 +108,7 @@ impl Slot {
         }
     }
 
-    // Its colour, where that is known; else its pixels are copied.
+    // Its colour, if that is known; else its pixels are copied.
     pub(crate) fn read(&self, pixels: &mut [Pixel]) -> Option<Pixel>
         requires count { length pixels.old ≡ 4096 }
         ensures color { IfSome result (λ p. self.now ≡ tile_of p) }
@@ -156,7 +156,7 @@ impl Slot {
     }
 
     // What the slot is after it is painted. Its pixels are painted beside it, and a tile is made of
-    // them where they aren't of one colour.
+    // them if they aren't of one colour.
     #[inline(never)]
     pub(crate) fn painted<P: TilePainter, T: Ledger>(
         &self,
@@ -260,7 +260,7 @@ impl Slot {
     }
 }
 
-// A slot that shows the pixels. A tile is made of them where they aren't of one colour.
+// A slot that shows the pixels. A tile is made of them if they aren't of one colour.
 fn slot_of<T: Ledger>(
     pixels: Vec<Pixel>,
     palette: &mut Palette,

@@ -127,14 +127,14 @@ impl Tile {
         let _ = &self.pixels;
     }
 
-    /// The colour of all its pixels, where that is known.
+    /// The colour of all its pixels, if that is known.
     pub fn color(&self) -> Option<Pixel>
         ensures { IsOfColor result self.now }
     {
         self.color
     }
 
-    /// Its colour, where that is known; else its pixels are copied.
+    /// Its colour, if that is known; else its pixels are copied.
     pub fn read(&self, pixels: &mut [Pixel]) -> Option<Pixel>
         requires count { length pixels.old ≡ 4096 }
         ensures color { IfSome result (λ p. self.now ≡ tile_of p) }
@@ -202,7 +202,7 @@ impl Tile {
         painter.paint(col, row, pixels);
     }
 
-    /// Marks it with its colour, where all its pixels are of one, and gives that. It takes no
+    /// Marks it with its colour, if all its pixels are of one, and gives that. It takes no
     /// memory.
     pub fn mark(&mut self) -> Option<Pixel>
         ensures same { self.new ≡ self.old }

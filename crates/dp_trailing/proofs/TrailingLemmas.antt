@@ -48,7 +48,7 @@ held-within : {B Op : Type 0} → (draw : B → Op → B) (blank : B) (depth : �
     → TrailsReach t → t.base + length t.kept ≡ length acts
 held-within draw blank depth acts t tr order = sym order.up_to_end ∙ tr.table.position
 
--- an act that comes next, where it moves a group or not
+-- an act that comes next, if it moves a group or not
 trails-next : {B Op : Type 0} → Laws Op → (draw : B → Op → B) (blank : B) (depth : ℕ)
     (acts : List (UserAct Op)) (a : UserAct Op) (t : Trailing B Op) (o : Option ℕ)
     → a.user < 256 → concerned a < 256 → Trails draw blank depth acts t → TrailsReach t

@@ -36,7 +36,7 @@ pub record HoldsReach (position oldest base kept : ℕ) : Type 0 where
 abbrev pub TrailsReach : {B Op : Type 0} → Trailing B Op → Type 0
 TrailsReach t = HoldsReach t.table.position (oldest_in t.table) t.base (length t.kept)
 
--- the acts that are held from the position `base` on, after a move of a group, where one moved: the
+-- the acts that are held from the position `base` on, after a move of a group, if one moved: the
 -- flags change from the Point of the group on
 abbrev pub marked_later : {Op : Type 0}
     → ℕ → Option Mark → List (KeptAct Op) → List (KeptAct Op)

@@ -94,7 +94,7 @@ fn draw_kept<B: Board, D: Ledger, T: Ledger>(
 }
 
 impl<B: Board> TrailingBoard<B> {
-    /// A board before the first act, where undo and redo reach the last `depth` points.
+    /// A board before the first act, if undo and redo reach the last `depth` points.
     pub fn new(alloc: Global, depth: u32, blank: B) -> Result<Self, AllocError>
         ensures { IfOk result (Trails B.drawn blank depth []) }
     {

@@ -1,4 +1,4 @@
--- The number of 64 bits that the word is, is the one of 32, where there is one.
+-- The number of 64 bits that the word is, is the one of 32, if there is one.
 use Rattle.std.proofs.Common.{◌<◌, ◌^◌, ℕ, List, Option, arith, subst, sym, ◌∙◌}
 use Rattle.std.proofs.lemmas.Fmt.{decimal_injective}
 use Rattle.std.specs.Prelude.{IfNone, Result, Ok, Err}

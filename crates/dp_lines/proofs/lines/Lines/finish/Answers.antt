@@ -19,7 +19,7 @@ returns-in-Some-clause-long c n =
       λ next. long.1 (long_still c.args.self.now c.pass_over.new.self n keeps next),
     )
 
--- where an ended line is to come, a line is
+-- if an ended line is to come, a line is
 pub returns-in-Some-clause-memory : goal.returns-in-Some-clause-memory
 returns-in-Some-clause-memory c err none =
     c.take_ended.ensures.memory

@@ -19,7 +19,7 @@ returns-in-None-clause-long c n =
       λ next. long.1 (long_still c.args.self.now c.pass_over.new.self n keeps next),
     )
 
--- where no newline is held, no ended line is to come
+-- if no newline is held, no ended line is to come
 pub returns-in-None-clause-none : goal.returns-in-None-clause-none
 returns-in-None-clause-none c =
     if_none c.refuse_long_rest.result

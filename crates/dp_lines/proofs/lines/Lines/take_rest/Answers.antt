@@ -27,7 +27,7 @@ pub returns-then-len-eq0-clause-long : goal.returns-then-len-eq0-clause-long
 returns-then-len-eq0-clause-long c n =
     (λ err. absurd (cc (err)), λ next. absurd (none_next c.args.self.now (empty_rest c) n next))
 
--- what is known where the rest is passed over
+-- what is known if the rest is passed over
 skipped_facts : (c : After-drop_line)
     → (c.drop_line.new.self ≡ after_first c.args.self.now (length c.args.self.now.bytes))
     × (0 < length c.args.self.now.bytes) × (lines_from c.args.self.now ≡ [])
@@ -63,7 +63,7 @@ returns-then-is_passed-clause-count c =
     ap (λ (h : Held). h.count + length (lines h.bytes)) facts.0
     ∙ rest_counted c.args.self.now c.requires facts.1
 
--- what is known where the rest is a line to come
+-- what is known if the rest is a line to come
 kept_facts : (c : After-take_line)
     → (after_first c.args.self.now (c.len-len.result + 0)
     ≡ after_first c.args.self.now (length c.args.self.now.bytes))
