@@ -45,7 +45,7 @@ const PART_LIMIT: usize = 262_144;
 /// The most bytes that the payloads of its parts have.
 const BYTE_LIMIT: u64 = 1 << 28;
 
-/// From if on a history, which ends there, is kept by the reset of the connection, if it sends
+/// From where on a history, which ends there, is kept by the reset of the connection, if it sends
 /// one, by the place that it names.
 fn start_of(owner: Option<u32>, place: Option<u32>, end: usize) -> usize
     ensures { result ≡ start_of owner place end }
