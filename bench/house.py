@@ -12,7 +12,7 @@ It looks at text alone and proves nothing, in a few seconds. It finds
 - a file, crate or backquoted name in a document that isn't there, or not in the crate that it names;
 - a line of over 100 columns that the formatter could break;
 - a function of over 40 lines, or of over 7 parameters that isn't a test's.
-The status is 1 where it finds anything."""
+The status is 1 if it finds anything."""
 import glob
 import os
 import re
@@ -27,10 +27,10 @@ LEMMA = re.compile(r"^((?:  )?)(?:abbrev )?pub ([^\s:(]+)(?: :|$)", re.M)
 FN = re.compile(r"^( *)(?:pub(?:\([^)]*\))? )?(?:const )?fn (\w+)")
 # What a name in a proof file may be written with, beside letters, digits and `_`.
 WORD = r"[^\s(){}\[\],;:.λ]+"
-# Names that documents use for what isn't this repository's: of the toolchain, of Rust, of the shell.
 SENTENCES = ("README.md", "CONTRIBUTING.md", "CHANGELOG.md", "docs/promises.md", "docs/protocol.md", "docs/DECISIONS.md")
 # A sentence ends with its mark, also where that stands in brackets or in bold.
 SENTENCE_END = r"(?:(?<=[.:?!])|(?<=[.:?!][)*\"])|(?<=[.:?!]\*\*))\s+"
+# Names that documents use for what isn't this repository's: of the toolchain, of Rust, of the shell.
 DOCUMENTS = ("README.md", "CONTRIBUTING.md", "docs/architecture.md", "docs/promises.md", "docs/DECISIONS.md")
 
 
