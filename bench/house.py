@@ -7,8 +7,7 @@ It looks at text alone and proves nothing, in a few seconds. It finds
 - a definition's name that stands in two crates which bench/doubled_names.txt doesn't list, and what
   stands in that list but isn't so any more;
 - a lemma that no other line cites, or only a wrong body;
-- a sentence with over 25 words in README.md, CONTRIBUTING.md, CHANGELOG.md, docs/DECISIONS.md,
-  docs/promises.md and docs/protocol.md, in a cell of a table too;
+- a sentence with over 25 words in a document that is written by hand, in a cell of a table too;
 - a file, crate or backquoted name in a document that isn't there, or not in the crate that it names;
 - a line of over 100 columns that the formatter could break;
 - a function of over 40 lines, or of over 7 parameters that isn't a test's.
@@ -27,7 +26,11 @@ LEMMA = re.compile(r"^((?:  )?)(?:abbrev )?pub ([^\s:(]+)(?: :|$)", re.M)
 FN = re.compile(r"^( *)(?:pub(?:\([^)]*\))? )?(?:const )?fn (\w+)")
 # What a name in a proof file may be written with, beside letters, digits and `_`.
 WORD = r"[^\s(){}\[\],;:.λ]+"
-SENTENCES = ("README.md", "CONTRIBUTING.md", "CHANGELOG.md", "docs/promises.md", "docs/protocol.md", "docs/DECISIONS.md")
+# The documents that are written by hand.
+SENTENCES = (
+    "README.md", "CONTRIBUTING.md", "CHANGELOG.md", "docs/promises.md", "docs/protocol.md",
+    "docs/architecture.md", "docs/DECISIONS.md", "bench/RESULTS.md",
+)
 # A sentence ends with its mark, also where that stands in brackets or in bold.
 SENTENCE_END = r"(?:(?<=[.:?!])|(?<=[.:?!][)*\"])|(?<=[.:?!]\*\*))\s+"
 # Names that documents use for what isn't this repository's: of the toolchain, of Rust, of the shell.
