@@ -109,7 +109,7 @@ def look_at_lemmas():
 
 def look_at_sentences():
     for name in SENTENCES:
-        text = re.sub(r"```.*?```|^    .*$|^#.*$|^!\[.*$", "\n\n", text_of(f"{ROOT}/{name}"), flags=re.M | re.S)
+        text = re.sub(r"(?s:```.*?```)|^    .*$|^#.*$|^!\[.*$", "\n\n", text_of(f"{ROOT}/{name}"), flags=re.M)
         text = re.sub(r"^\|.*$", lambda row: "\n\n" + row[0].strip("|").replace(" | ", "\n\n"), text, flags=re.M)
         for part in re.split(r"\n\s*\n|\n(?=\s*(?:-|\d+\.) )", text):
             for sentence in re.split(SENTENCE_END, " ".join(part.split())):
