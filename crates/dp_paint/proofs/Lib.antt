@@ -4,6 +4,7 @@ pub mod Filed
 pub mod Made
 pub mod Counts
 pub mod Bands
+pub mod Unlisted
 pub mod Layers
 pub mod Drawn
 pub mod FootLemmas

@@ -81,6 +81,9 @@ pub(crate) fn settle<T: Ledger>(
     ensures few_tiles { tiles.new ≤ tiles.old + cells_of area }
 {
     grid.known();
+    if lists.is_blank() {
+        return Ok(());
+    }
     paint_lists(grid, on, lists, area, tiles)?;
     lists.finish(area, Finish::Clear);
     Ok(())
