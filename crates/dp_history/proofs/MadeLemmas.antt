@@ -4,7 +4,8 @@ use Rattle.std.proofs.Common.{List, [], ◌∷◌, ◌++◌, length, take, drop,
 use Rattle.std.proofs.Common.{if◌then◌else◌, refl, sym, ap, subst, ◌∙◌, arith, ⊎_elim}
 use Rattle.std.proofs.Common.{append_assoc, append-nil, length-append, length-drop, length-take}
 use Rattle.std.proofs.Common.{get_or-drop, take-append-drop, drop-drop, take-take, take_at, drop_at}
-use Rattle.std.proofs.lemmas.Bool.{cases_lt, cases_Bool, ltb-true, ltb-false, cond-true, cond-false}
+use Rattle.std.proofs.Common.{Result, Ok, Err, IfOk, lt-ltb, le-ltb}
+use Rattle.std.proofs.lemmas.Bool.{cases_Bool, ltb-true, ltb-false, cond-true, cond-false}
 use Rattle.std.proofs.lemmas.List.{drop_more, drop-take, take-append-le, drop-append-le}
 use Rattle.std.proofs.lemmas.List.{get_or-map, length-map, get_or_append_left}
 use Rattle.std.proofs.Math.Seq.{drop-append_seam}
@@ -15,7 +16,7 @@ use Rattle.dp_epochs.specs.declared.event.Event.{Event}
 use Rattle.dp_history.specs.declared.item.HistoryItem.{HistoryItem}
 use Rattle.dp_history.specs.declared.frames.HistoryFrames.{HistoryFrames}
 use Rattle.dp_history.specs.declared.log.Moved.{Moved}
-use Rattle.dp_history.specs.Frames.{Frames, AreFramesOf, AreWritten}
+use Rattle.dp_history.specs.Frames.{Frames, AreFramesOf, AreWritten, frames_of}
 use Rattle.dp_history.specs.Items.{entry_in}
 use Rattle.dp_history.specs.Moves.{AreMoved}
 use Rattle.dp_history.specs.Made.{AreKept, AreMade, going_over, made_at}
@@ -25,10 +26,12 @@ use Rattle.dp_history.proofs.FrameLemmas.{length-ends}
 
 drop-both : {X : Type 0} (n : ℕ) (xs ys : List X)
     → drop n (xs ++ ys) ≡ drop n xs ++ drop (n - length xs) ys
-drop-both zero xs ys = ap (λ n. xs ++ drop n ys) (omega arith)
-drop-both (suc n) [] ys = ap (λ k. drop k ys) (omega arith)
+drop-both zero xs ys =
+    let none : zero ≡ zero - length xs = omega arith in ap (λ k. xs ++ drop k ys) none
+drop-both (suc n) [] ys = let all : suc n ≡ suc n - zero = omega arith in ap (λ k. drop k ys) all
 drop-both (suc n) (x ∷ xs) ys =
-    drop-both n xs ys ∙ ap (λ k. drop n xs ++ drop k ys) (omega arith)
+    let less : n - length xs ≡ suc n - suc (length xs) = omega arith in
+    drop-both n xs ys ∙ ap (λ k. drop n xs ++ drop k ys) less
 
 -- ---- frames that were made
 
@@ -94,6 +97,53 @@ made-within frames history at are some =
       length-drop frames.base history,
     ))
     (cases_Bool (nat_lt at frames.base))
+
+-- how many are asked for stand before the end
+pub front-fits : (frames : HistoryFrames) (at most : ℕ) → at < frames.base → 0 < most
+    → most ≤ made_at frames at → at + most ≤ length frames.front.ends
+front-fits frames at most before some within =
+    let is : made_at frames at ≡ length frames.front.ends - at = ap (λ b.
+    if b then length frames.front.ends - at else length frames.rest.ends - (at - frames.base))
+    (lt-ltb at frames.base before) in
+    omega (arith, is, some, within)
+
+pub rest-fits : (frames : HistoryFrames) (at most : ℕ) → frames.base ≤ at → 0 < most
+    → most ≤ made_at frames at → at - frames.base + most ≤ length frames.rest.ends
+rest-fits frames at most after some within =
+    let is : made_at frames at ≡ length frames.rest.ends - (at - frames.base) = ap (λ b.
+    if b then length frames.front.ends - at else length frames.rest.ends - (at - frames.base))
+    (le-ltb at frames.base after) in
+    omega (arith, is, some, within)
+
+-- frames that were put are those of the history
+pub put-front : {E : Type 0} (r : Result ℕ E) (frames : HistoryFrames) (at most : ℕ)
+    (old new : List ℕ) → at + most ≤ length frames.front.ends → IfOk r (λ count. count ≤ most)
+    → IfOk r (λ count. (entries : List Entry) → AreFramesOf frames.front entries
+    → new ≡ old ++ frames_of (take count (drop at entries)))
+    → IfOk r (λ count. (history : List Entry) → AreMade frames history
+    → new ≡ old ++ frames_of (take count (drop at history)))
+put-front (Ok count) frames at most old new fits few put = λ history are.
+    let front = are.front in
+    put front.written front.of
+    ∙ ap (λ xs. old ++ frames_of xs)
+    (front-part front.written front.rest history frames.base at count front.all
+    (omega (arith, few, fits, ends-count frames.front front.written front.of)))
+put-front (Err e) frames at most old new fits few put = put
+
+pub put-rest : {E : Type 0} (r : Result ℕ E) (frames : HistoryFrames) (at most : ℕ)
+    (old new : List ℕ) → frames.base ≤ at → at - frames.base + most ≤ length frames.rest.ends
+    → IfOk r (λ count. count ≤ most)
+    → IfOk r (λ count. (entries : List Entry) → AreFramesOf frames.rest entries
+    → new ≡ old ++ frames_of (take count (drop (at - frames.base) entries)))
+    → IfOk r (λ count. (history : List Entry) → AreMade frames history
+    → new ≡ old ++ frames_of (take count (drop at history)))
+put-rest (Ok count) frames at most old new after fits few put = λ history are.
+    let rest = are.rest in
+    put rest.written rest.of
+    ∙ ap (λ xs. old ++ frames_of xs)
+    (rest-part rest.written rest.rest history frames.base at count rest.all after
+    (omega (arith, few, fits, ends-count frames.rest rest.written rest.of)))
+put-rest (Err e) frames at most old new after fits few put = put
 
 -- no frame is one of a history
 pub none-written : (frames : Frames) (history : List Entry) → AreFramesOf frames []

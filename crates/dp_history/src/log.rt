@@ -136,7 +136,7 @@ impl FrameLog {
     /// Leaves out the frames before a place.
     pub(crate) fn skip(&self, at: usize) -> Moved
         requires { (entries : List Piece) × AreFramesOf self.now entries × (at ≤ length entries) }
-        ensures { (entries : List Piece) → AreFramesOf self.now entries → at ≤ length entries
+        ensures { (entries : List Piece) → AreFramesOf self.now entries
             → AreMoved self.now at result [] (drop at entries) }
     {
         Moved {

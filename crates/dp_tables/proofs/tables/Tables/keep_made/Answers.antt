@@ -178,7 +178,9 @@ invariant_of-self c =
           ∙ ap (λ n. parts_after n effect t.owner t.parts.items) count;
       part_bytes = c.follow.ensures.bytes
           ∙ ap (λ n. bytes_after n effect t.owner t.part_bytes) size;
-      frames = c.place.ensures.frames;
+      frames = frames-kept s (seen t) c.self.invariant.of e effect supply t.frames _ is.places
+          (rw (c.deref.ensures.value, c.deref-2.ensures.value) at c.keep_frames.ensures)
+          c.self.invariant.frames;
     })
 
 pub returns-clause-kept : goal.returns-clause-kept
