@@ -1,5 +1,5 @@
 -- The frames that were made of a history.
-use Rattle.std.specs.Prelude.{◌≡◌, ◌-◌, ◌≤◌, ℕ, if◌then◌else◌, nat_lt}
+use Rattle.std.specs.Prelude.{◌-◌, ◌≤◌, ℕ, if◌then◌else◌, nat_lt}
 use Rattle.std.specs.Prelude.{List, [], length, take, drop}
 use Rattle.std.specs.List.{filter}
 use Rattle.dp_messages.specs.declared.message.Entry.{Entry}

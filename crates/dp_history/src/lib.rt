@@ -9,8 +9,6 @@ mod opening;
 mod presence;
 
 pub use frames::HistoryFrames;
-pub use item::{
-    HistoryItem, copies, count_kept, entry, join_entry, name_text, put_item,
-};
+pub use item::{HistoryItem, copies, count_kept, entry, join_entry, name_text, put_item};
 pub use opening::Opening;
 pub use presence::{first_operator, free_id, next_operator, present_ids};

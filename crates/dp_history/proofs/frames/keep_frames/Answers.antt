@@ -1,4 +1,4 @@
-use Rattle.std.proofs.Common.{◌≡◌, ◌<◌, ◌+◌, ◌-◌, length, take, drop, map, sym, ap, subst, arith}
+use Rattle.std.proofs.Common.{◌<◌, ◌+◌, ◌-◌, length, take, drop, sym, ap, subst, arith}
 use Rattle.std.proofs.Common.{length-append}
 use Rattle.std.proofs.lemmas.List.{length-map}
 use Rattle.dp_history.specs.Items.{entry_in, IsIn}

@@ -2,7 +2,7 @@ use Rattle.std.proofs.Common.{◌≡◌, ◌-◌, length, map, drop, sym, ap, su
 use Rattle.std.proofs.lemmas.List.{drop-map}
 use Rattle.dp_history.specs.Frames.{AreFramesOf, AreWritten}
 use Rattle.dp_history.specs.Items.{entry_in}
-use Rattle.dp_history.specs.Made.{AreKept, going_over}
+use Rattle.dp_history.specs.Made.{going_over}
 use Rattle.dp_history.proofs.MadeLemmas.{made-of-kept}
 use Rattle.dp_history.proofs.frames.HistoryFrames.keep.Goals as goal
 
