@@ -19,7 +19,7 @@ use Rattle.dp_history.specs.declared.log.Moved.{Moved}
 use Rattle.dp_history.specs.Frames.{Frames, AreFramesOf, AreWritten, frames_of}
 use Rattle.dp_history.specs.Items.{entry_in}
 use Rattle.dp_history.specs.Moves.{AreMoved}
-use Rattle.dp_history.specs.Made.{AreKept, AreMade, going_over, made_at}
+use Rattle.dp_history.specs.Made.{AreKept, AreMadeOf, going_over, made_at}
 use Rattle.dp_history.proofs.FrameLemmas.{length-ends}
 
 -- ---- lists
@@ -66,8 +66,8 @@ rest-part written rest history base at count all above within =
     ∙ ap (take count) (drop-drop k base history ∙ ap (λ n. drop n history) on)
 
 -- there are as many entries
-pub made-within : (frames : HistoryFrames) (history : List Entry) (at : ℕ) → AreMade frames history
-    → 0 < made_at frames at → at + made_at frames at ≤ length history
+pub made-within : (frames : HistoryFrames) (history : List Entry) (at : ℕ)
+    → AreMadeOf frames history → 0 < made_at frames at → at + made_at frames at ≤ length history
 made-within frames history at are some =
     ⊎_elim (λ (before : nat_lt at frames.base ≡ true).
     let is : made_at frames at ≡ length frames.front.ends - at = ap (λ b.
@@ -120,7 +120,7 @@ pub put-front : {E : Type 0} (r : Result ℕ E) (frames : HistoryFrames) (at mos
     (old new : List ℕ) → at + most ≤ length frames.front.ends → IfOk r (λ count. count ≤ most)
     → IfOk r (λ count. (entries : List Entry) → AreFramesOf frames.front entries
     → new ≡ old ++ frames_of (take count (drop at entries)))
-    → IfOk r (λ count. (history : List Entry) → AreMade frames history
+    → IfOk r (λ count. (history : List Entry) → AreMadeOf frames history
     → new ≡ old ++ frames_of (take count (drop at history)))
 put-front (Ok count) frames at most old new fits few put = λ history are.
     let front = are.front in
@@ -135,7 +135,7 @@ pub put-rest : {E : Type 0} (r : Result ℕ E) (frames : HistoryFrames) (at most
     → IfOk r (λ count. count ≤ most)
     → IfOk r (λ count. (entries : List Entry) → AreFramesOf frames.rest entries
     → new ≡ old ++ frames_of (take count (drop (at - frames.base) entries)))
-    → IfOk r (λ count. (history : List Entry) → AreMade frames history
+    → IfOk r (λ count. (history : List Entry) → AreMadeOf frames history
     → new ≡ old ++ frames_of (take count (drop at history)))
 put-rest (Ok count) frames at most old new after fits few put = λ history are.
     let rest = are.rest in
@@ -162,8 +162,8 @@ written-on frames history more are = record {
 }
 
 -- what was made of a history was made of a longer one
-pub made-on : (frames : HistoryFrames) (history more : List Entry) → AreMade frames history
-    → AreMade frames (history ++ more)
+pub made-on : (frames : HistoryFrames) (history more : List Entry) → AreMadeOf frames history
+    → AreMadeOf frames (history ++ more)
 made-on frames history more are = record {
   within = omega (arith, are.within, length-append history more);
   front = subst (AreWritten frames.front)
@@ -259,11 +259,11 @@ going-split history base at =
 
 -- the frames of those that go over are made of the history that they end
 pub made-of-kept : (old new : HistoryFrames) (history before : List Entry) (at count length_is : ℕ)
-    → (are : AreMade old history) → AreKept old at are.rest.written new
+    → (are : AreMadeOf old history) → AreKept old at are.rest.written new
     → count ≡ length (going_over (drop (at - old.base) (drop old.base history)))
     → length_is ≡ length (before ++ going_over (drop at history))
     → new.base ≡ length_is - count
-    → AreMade new (before ++ going_over (drop at history))
+    → AreMadeOf new (before ++ going_over (drop at history))
 made-of-kept old new history before at count length_is are kept count_is long base =
     let skip = at - old.base in
     let mine = going_over (drop skip (drop old.base history)) in
@@ -282,7 +282,7 @@ made-of-kept old new history before at count length_is are kept count_is long ba
     (drop (skip - length are.rest.written) are.rest.rest) in
     let there : drop new.base (own ++ mine) ≡ mine =
     ap (λ n. drop n (own ++ mine)) front ∙ drop-append_seam own mine in
-    subst (AreMade new) (sym parts) (record {
+    subst (AreMadeOf new) (sym parts) (record {
       within = omega (arith, front, length-append own mine);
       front = none-written new.front (take new.base (own ++ mine)) kept.none;
       rest = record { written = written; rest = left; of = kept.kept; all = there ∙ mine_is };

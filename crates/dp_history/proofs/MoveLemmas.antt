@@ -137,7 +137,8 @@ module _ (frames : Frames) (at : ℕ) (moved : Moved) (kept left : List Entry) (
 
     front-is : take next.size new.bytes ≡ frames_of (kept ++ entry ∷ [])
     front-is =
-        let to : next.size ≡ moved.size + (moved.begin + size - moved.begin) = omega (arith, more) in
+        let to : next.size ≡ moved.size + (moved.begin + size - moved.begin) = omega
+        (arith, more) in
         ap (take next.size) bytes-are ∙ ap (λ n. take n pasted) to
         ∙ take-paste frames.bytes moved.size behind (moved.begin + size - moved.begin) front-fits
         enough
@@ -196,13 +197,3 @@ module _ (frames : Frames) (at : ℕ) (moved : Moved) (kept left : List Entry) (
       count = omega (arith, count, are.count, length-append kept (entry ∷ []));
       few = omega (arith, are.few, count);
     }
-
--- ---- after the last frame
-
-pub all-moved : (old new : Frames) (at : ℕ) (moved : Moved) (kept : List Entry)
-    → AreMoved old at moved kept [] → new.bytes ≡ take moved.size old.bytes
-    → new.ends ≡ take moved.count old.ends → AreFramesOf new kept
-all-moved old new at moved kept are bytes ends = record {
-  bytes = bytes ∙ are.front;
-  ends = ends ∙ are.ends;
-}

@@ -8,7 +8,7 @@ use Rattle.dp_history.specs.declared.frames.HistoryFrames.{HistoryFrames}
 use Rattle.dp_history.specs.Frames.{AreFramesOf, AreWritten}
 
 -- they are those of the first entries before a place, and of the first from that place on
-pub record AreMade (frames : HistoryFrames) (history : List Entry) : Type 0 where
+pub record AreMadeOf (frames : HistoryFrames) (history : List Entry) : Type 0 where
   pub within : frames.base ≤ length history
   pub front : AreWritten frames.front (take frames.base history)
   pub rest : AreWritten frames.rest (drop frames.base history)

@@ -5,7 +5,7 @@ ghost use Rattle.std.specs.Prelude.{IfOk, OnErr};
 ghost use Rattle.dp_messages.specs.declared.message.Entry.{Entry as Piece};
 ghost use Rattle.dp_history.specs.Frames.{AreFramesOf, AreWritten, IsShort, frames_of};
 ghost use Rattle.dp_history.specs.Items.{entry_in, IsIn};
-ghost use Rattle.dp_history.specs.Made.{AreKept, AreMade, going_over, made_at};
+ghost use Rattle.dp_history.specs.Made.{AreKept, AreMadeOf, going_over, made_at};
 
 use crate::item::{HistoryItem, count_kept, is_kept, write_all};
 use crate::log::FrameLog;
@@ -25,7 +25,7 @@ pub struct HistoryFrames {
     rest: FrameLog,
 }
 
-/// Keeps the frames of those entries from a place on that go over. Takes no memory.
+/// Keeps the frames of those entries from a place on that go over. It takes no memory.
 fn keep_frames(journal: &[Event], items: &[HistoryItem], skip: usize, frames: &mut FrameLog)
     requires said { All (IsIn journal.now) items.now }
     requires made { AreWritten frames.old (map (entry_in journal.now) items.now) }
@@ -43,7 +43,7 @@ fn keep_frames(journal: &[Event], items: &[HistoryItem], skip: usize, frames: &m
 impl HistoryFrames {
     /// No frame.
     pub fn new(alloc: Global) -> HistoryFrames
-        ensures { (history : List Piece) → AreMade result history }
+        ensures { (history : List Piece) → AreMadeOf result history }
     {
         HistoryFrames {
             front: FrameLog::new(alloc),
@@ -70,12 +70,12 @@ impl HistoryFrames {
     ///
     /// Memory ran out: the bytes are as they were.
     pub fn put(&self, at: usize, most: usize, out: &mut Vec<u8>) -> Result<usize, AllocError>
-        requires made { (history : List Piece) × AreMade self.now history }
+        requires made { (history : List Piece) × AreMadeOf self.now history }
         requires some { 0 < most }
         requires most { most ≤ made_at self.now at }
         ensures some { IfOk result (λ count. 0 < count) }
         ensures most { IfOk result (λ count. count ≤ most) }
-        ensures put { IfOk result (λ count. (history : List Piece) → AreMade self.now history
+        ensures put { IfOk result (λ count. (history : List Piece) → AreMadeOf self.now history
             → out.new.items ≡ out.old.items ++ frames_of (take count (drop at history))) }
         ensures short { IfOk result (λ count. IsShort count out.old.items out.new.items) }
         ensures err { OnErr result (out.new.items ≡ out.old.items) }
@@ -90,24 +90,24 @@ impl HistoryFrames {
     /// Makes the frames of the entries that have none yet, as far as memory goes.
     pub fn write(&mut self, alloc: Global, journal: &[Event], live: &[HistoryItem])
         requires { All (IsIn journal.now) live.now }
-        ensures { AreMade self.old (map (entry_in journal.now) live.now)
-            → AreMade self.new (map (entry_in journal.now) live.now) }
+        ensures { AreMadeOf self.old (map (entry_in journal.now) live.now)
+            → AreMadeOf self.new (map (entry_in journal.now) live.now) }
     {
         write_all(alloc, journal, prefix_of(live, self.base), &mut self.front);
         write_all(alloc, journal, rest_of(live, self.base), &mut self.rest);
     }
 
-    /// Keeps the frames of those entries from a place on that go over into an epoch which opens with
-    /// so many entries, these last. It takes no memory.
+    /// Keeps the frames of those entries from a place on that go over into an epoch, which opens
+    /// with so many entries, these last. It takes no memory.
     pub fn keep(&mut self, journal: &[Event], live: &[HistoryItem], at: usize, opens_with: usize)
         requires said { All (IsIn journal.now) live.now }
-        requires made { AreMade self.old (map (entry_in journal.now) live.now) }
-        ensures kept { (are : AreMade self.old (map (entry_in journal.now) live.now))
+        requires made { AreMadeOf self.old (map (entry_in journal.now) live.now) }
+        ensures kept { (are : AreMadeOf self.old (map (entry_in journal.now) live.now))
             → AreKept self.old at are.rest.written self.new }
         ensures made { (before : List Piece)
             → opens_with ≡ length (before
             ++ going_over (drop at (map (entry_in journal.now) live.now)))
-            → AreMade self.new (before
+            → AreMadeOf self.new (before
             ++ going_over (drop at (map (entry_in journal.now) live.now))) }
     {
         let items = rest_of(live, self.base);

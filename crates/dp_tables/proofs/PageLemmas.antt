@@ -1,6 +1,7 @@
 -- Pages of a history, and the frames of its first entries.
 use Rattle.std.proofs.Common.{◌≡◌, ℕ, ◌+◌, ◌<◌, ◌≤◌, max, List, ◌∷◌, ◌++◌, length, []}
-use Rattle.std.proofs.Common.{map, take, drop, append-nil, Some, Result, Ok, Err, IfOk, sym, ap, ◌∙◌}
+use Rattle.std.proofs.Common.{map, take, drop, append-nil, Some, Result, Ok, Err, IfOk, sym, ap}
+use Rattle.std.proofs.Common.{◌∙◌}
 use Rattle.std.proofs.Common.{arith}
 use Rattle.std.specs.List.{slice_get}
 use Rattle.std.proofs.lemmas.List.{drop-take, take-append-le, length-take-le, length-drop}
@@ -10,7 +11,7 @@ use Rattle.dp_epochs.specs.declared.event.Event.{Event}
 use Rattle.dp_epochs.specs.Pull.{page}
 use Rattle.dp_history.specs.declared.frames.HistoryFrames.{HistoryFrames}
 use Rattle.dp_history.specs.Frames.{frames_of}
-use Rattle.dp_history.specs.Made.{AreMade}
+use Rattle.dp_history.specs.Made.{AreMadeOf}
 use Rattle.dp_history.specs.declared.item.HistoryItem.{HistoryItem}
 use Rattle.dp_history.specs.Items.{entry_in}
 use Rattle.dp_tables.proofs.ReadLemmas.{page-is}
@@ -54,9 +55,9 @@ length-of-prefix written at count within =
 -- frames that were put are a page
 pub made-put : {E : Type 0} (r : Result ℕ E) (frames : HistoryFrames) (live : List Entry)
     (end at most : ℕ) (old new : List ℕ) → at + most ≤ length live → at + most ≤ end
-    → AreMade frames live
+    → AreMadeOf frames live
     → IfOk r (λ count. 0 < count) → IfOk r (λ count. count ≤ most)
-    → IfOk r (λ count. (history : List Entry) → AreMade frames history
+    → IfOk r (λ count. (history : List Entry) → AreMadeOf frames history
     → new ≡ old ++ frames_of (take count (drop at history)))
     → IfOk r (λ count. (m : ℕ) × (count ≡ length (page at m (take end live)))
     × (new ≡ old ++ frames_of (page at m (take end live))))

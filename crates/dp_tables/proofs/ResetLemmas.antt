@@ -29,7 +29,7 @@ use Rattle.dp_epochs.specs.declared.effect.Effect.TheVariants.{Reopened}
 use Rattle.dp_epochs.specs.Effects.{entries_of, live_after}
 use Rattle.dp_epochs.proofs.OpeningLemmas.{kept-few, going-few}
 use Rattle.dp_history.specs.declared.frames.HistoryFrames.{HistoryFrames}
-use Rattle.dp_history.specs.Made.{AreMade, going_over}
+use Rattle.dp_history.specs.Made.{AreMadeOf, going_over}
 use Rattle.dp_history.proofs.MadeLemmas.{made-on}
 use Rattle.dp_tables.specs.declared.ready.Supply.{Supply}
 use Rattle.dp_tables.specs.declared.ready.Supply.TheVariants.{Entries, Opens}
@@ -39,7 +39,8 @@ use Rattle.dp_history.specs.Items.{commands_in, entry_in, IsIn}
 use Rattle.dp_history.specs.Users.{mark}
 use Rattle.dp_tables.specs.Tables.{Seen, AreOf, start_of, stream_in}
 use Rattle.dp_history.proofs.Ranges.{filter-range_same}
-use Rattle.dp_tables.proofs.TableLemmas.{present-marked, sent-in, length-commands, live-length, live-more}
+use Rattle.dp_tables.proofs.TableLemmas.{present-marked, sent-in, length-commands, live-length}
+use Rattle.dp_tables.proofs.TableLemmas.{live-more}
 
 -- ---- limits
 
@@ -232,7 +233,8 @@ module _ (s : State) (t : Seen) (are : AreOf s t) where
   going-last : going_over (drop (start_of t.owner t.place (length t.live))
       (map (entry_in t.journal) t.live)) ≡ kept
   going-last =
-      ap going_over (drop-map (entry_in t.journal) (start_of t.owner t.place (length t.live)) t.live)
+      ap going_over
+      (drop-map (entry_in t.journal) (start_of t.owner t.place (length t.live)) t.live)
       ∙ kept-is
 
 -- ---- frames
@@ -242,10 +244,10 @@ pub frames-kept : (s : State) (t : Seen) → AreOf s t → (e : Event) (effect :
     (supply : Supply) (old new : HistoryFrames) → IsSupply t.journal s e effect supply
     → AreFramesWith (map (entry_in t.journal) t.live)
     (start_of t.owner t.place (length t.live)) supply old new
-    → AreMade old s.live → AreMade new (live_after s e effect)
+    → AreMadeOf old s.live → AreMadeOf new (live_after s e effect)
 frames-kept s t are e effect (Entries first second) old new is same made =
-    subst (AreMade new) (sym (live-more s e effect is.0).0)
-    (made-on new s.live (entries_of e effect) (subst (λ f. AreMade f s.live) (sym same) made))
+    subst (AreMadeOf new) (sym (live-more s e effect is.0).0)
+    (made-on new s.live (entries_of e effect) (subst (λ f. AreMadeOf f s.live) (sym same) made))
 frames-kept s t are e (Reopened conn c) (Opens opened) old new is keeps made =
     let users = present_users s in
     let commands = sent_commands s.stream in
@@ -258,7 +260,7 @@ frames-kept s t are e (Reopened conn c) (Opens opened) old new is keeps made =
     ++ map command_entry commands) in
     let whole : before ++ going ≡ opening (epoch_of s + 1) s.live users commands kept_now =
     ap (λ xs. before ++ xs) (going-last s t are) in
-    subst (AreMade new) whole (keeps before
+    subst (AreMadeOf new) whole (keeps before
     (sym (length-map opened.live.items (entry_in t.journal)) ∙ ap length is.1.entries
     ∙ sym (ap length whole)))
 frames-kept s t are e effect (Opens opened) old new is keeps made = cc

@@ -56,7 +56,7 @@ use Rattle.dp_tables.specs.declared.tables.Tables.TheInside.{Inside}
 use Rattle.dp_epochs.specs.Rows.{row_of, row_bytes, event_limit, byte_limit}
 use Rattle.dp_epochs.specs.Past.{Past, state_after, state_of, kept, refused}
 use Rattle.dp_epochs.specs.Laws.{ShutBefore, shut_by}
-use Rattle.dp_history.specs.Made.{AreMade}
+use Rattle.dp_history.specs.Made.{AreMadeOf}
 use Rattle.dp_history.specs.declared.opening.Opening.{Opening}
 use Rattle.dp_history.specs.Openings.{Holds}
 use Rattle.dp_tables.specs.SessionLog.{SessionLog, state_in}
@@ -725,7 +725,7 @@ pub tables-first : (t : Inside) (begun : Opening) → Holds [] begun first_state
     → t.rights ≡ begun.rights.value → t.present ≡ replicate 256 false → t.epoch ≡ 0
     → t.opens ≡ replicate 256 0 → t.owner ≡ None → t.place ≡ None → t.parts.items ≡ []
     → t.part_bytes ≡ 0
-    → ((history : List Entry) → AreMade t.frames history) → AreTables t
+    → ((history : List Entry) → AreMadeOf t.frames history) → AreTables t
 tables-first t begun holds ej es ec eq el eb er ep ee eo eu eh ek ez made =
     let first : Seen = record {
       journal = [];
@@ -889,7 +889,7 @@ pub record IsKept (old : Inside) (e : Event) (effect : Effect) (supply : Supply)
       ≡ parts_after (length old.journal.items) effect old.owner old.parts.items
   pub part_bytes : new.part_bytes
       ≡ bytes_after (row_length - 6) effect old.owner old.part_bytes
-  pub frames : AreMade new.frames (live_after (state_in (ledger_of old)) e effect)
+  pub frames : AreMadeOf new.frames (live_after (state_in (ledger_of old)) e effect)
 
 pub row-length : (conn : ℕ) (m : Msg) → length (row_of (event.Say conn m)) ≡ 6 + length
     (payload_of m)
@@ -971,7 +971,7 @@ tables-kept leads joins made_law old new e effect supply row_length are is keeps
       flags = ap length keeps.quiet
           ∙ flags-after (here s) effect old.quiet.items old.connections.items are.flags
           ∙ sym (ap length keeps.connections);
-      frames = subst (AreMade new.frames)
+      frames = subst (AreMadeOf new.frames)
           (sym (ap (λ a. a.state.live) (made_law s e effect is.does))
           ∙ sym (ap (λ x. x.live) state_is)) keeps.frames;
     }
@@ -1049,7 +1049,7 @@ tables-left leads old new conn are left =
       flags = ap length left.quiet ∙ are.flags
           ∙ sym (ap length left.connections
           ∙ length-closed conn (open_in old.connections.items conn) old.connections.items);
-      frames = subst (λ x. AreMade x (state_in (ledger_of new)).live) (sym left.frames)
-          (subst (AreMade old.frames) (sym (ap (λ x. x.live) state_is ∙ live-shut s conn o))
+      frames = subst (λ x. AreMadeOf x (state_in (ledger_of new)).live) (sym left.frames)
+          (subst (AreMadeOf old.frames) (sym (ap (λ x. x.live) state_is ∙ live-shut s conn o))
           are.frames);
     }

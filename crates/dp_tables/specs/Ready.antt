@@ -17,7 +17,7 @@ use Rattle.dp_history.specs.declared.item.HistoryItem.{HistoryItem}
 use Rattle.dp_history.specs.declared.item.HistoryItem.TheVariants as item
 use Rattle.dp_history.specs.declared.frames.HistoryFrames.{HistoryFrames}
 use Rattle.dp_history.specs.Items.{IsSay}
-use Rattle.dp_history.specs.Made.{AreMade, going_over}
+use Rattle.dp_history.specs.Made.{AreMadeOf, going_over}
 use Rattle.dp_history.specs.Openings.{Holds}
 use Rattle.dp_tables.specs.declared.ready.Supply.{Supply}
 use Rattle.dp_tables.specs.declared.ready.Supply.TheVariants.{Entries, Opens}
@@ -88,7 +88,7 @@ AreFramesWith history from (Entries first second) old new = new ≡ old
 AreFramesWith history from (Opens opening) old new =
     (before : List Entry)
     → length opening.live.items ≡ length (before ++ going_over (drop from history))
-    → AreMade new (before ++ going_over (drop from history))
+    → AreMadeOf new (before ++ going_over (drop from history))
 
 -- the number of the live epoch
 abbrev pub epoch_with : Supply → ℕ → ℕ

@@ -27,7 +27,7 @@ ghost use Rattle.dp_epochs.specs.Effects.{connections_at, own_message};
 ghost use Rattle.dp_epochs.specs.State.{acted, entry_of, open_in, place_in};
 ghost use Rattle.dp_epochs.specs.Past.{shut_with, quiet_with};
 ghost use Rattle.dp_history.specs.Items.{entry_in, IsIn, IsSay};
-ghost use Rattle.dp_history.specs.Made.{AreMade};
+ghost use Rattle.dp_history.specs.Made.{AreMadeOf};
 ghost use Rattle.dp_tables.specs.SessionLog.{state_in};
 ghost use Rattle.dp_tables.specs.Tables.{flagged};
 ghost use Rattle.dp_tables.specs.Ready.{own_entries, own_items, SaysOwn, supplied, items_after};
@@ -125,7 +125,7 @@ fn keep_frames(
     supply: &Supply,
 )
     requires said { All (IsIn journal.now) live.now }
-    requires made { AreMade frames.old (map (entry_in journal.now) live.now) }
+    requires made { AreMadeOf frames.old (map (entry_in journal.now) live.now) }
     ensures { AreFramesWith (map (entry_in journal.now) live.now) from supply.now frames.old
         frames.new }
 {

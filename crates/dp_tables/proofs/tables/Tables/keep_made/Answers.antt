@@ -4,7 +4,7 @@ use Rattle.std.specs.Prelude.{option_to_list}
 use Rattle.dp_epochs.specs.State.{here}
 use Rattle.dp_epochs.specs.Effects.{answer_at, connections_at, live_after}
 use Rattle.dp_history.specs.Items.{entry_in, IsIn}
-use Rattle.dp_history.specs.Made.{AreMade}
+use Rattle.dp_history.specs.Made.{AreMadeOf}
 use Rattle.dp_tables.specs.SessionLog.{state_in}
 use Rattle.dp_tables.specs.Tables.{quiet_of, start_of}
 use Rattle.dp_tables.specs.Inside.{is_ready, ledger_of, seen}
@@ -52,10 +52,11 @@ keep_frames-requires-clause-said c =
 pub keep_frames-requires-clause-made : goal.keep_frames-requires-clause-made
 keep_frames-requires-clause-made c =
     let t = c.self.inside in
-    subst (λ j. AreMade t.frames (map (entry_in j) c.deref-2.result.now)) (sym c.deref.ensures.value)
-    (subst (λ xs. AreMade t.frames (map (entry_in t.journal.items) xs))
+    subst (λ j. AreMadeOf t.frames (map (entry_in j) c.deref-2.result.now))
+    (sym c.deref.ensures.value)
+    (subst (λ xs. AreMadeOf t.frames (map (entry_in t.journal.items) xs))
     (sym c.deref-2.ensures.value)
-    (subst (AreMade t.frames) (sym c.self.invariant.of.entries) c.self.invariant.frames))
+    (subst (AreMadeOf t.frames) (sym c.self.invariant.of.entries) c.self.invariant.frames))
 
 pub follow-requires-clause-parts : goal.follow-requires-clause-parts
 follow-requires-clause-parts c =

@@ -1,5 +1,5 @@
 use Rattle.std.proofs.Common.{sym, subst}
-use Rattle.dp_history.specs.Made.{AreMade}
+use Rattle.dp_history.specs.Made.{AreMadeOf}
 use Rattle.dp_tables.proofs.tables.Tables.write_frames.Goals as goal
 
 pub invariant_of-self : goal.invariant_of-self
@@ -14,6 +14,6 @@ invariant_of-self c =
       events = are.events;
       within = are.within;
       flags = are.flags;
-      frames = subst (AreMade c.write.new.self) are.of.entries
-          (made (subst (AreMade t.frames) (sym are.of.entries) are.frames));
+      frames = subst (AreMadeOf c.write.new.self) are.of.entries
+          (made (subst (AreMadeOf t.frames) (sym are.of.entries) are.frames));
     }
