@@ -1,4 +1,4 @@
-use Rattle.std.proofs.Common.{ap, sym, subst, arith}
+use Rattle.std.proofs.Common.{subst, arith}
 use Rattle.dp_history.specs.Made.{AreMadeOf}
 use Rattle.dp_history.proofs.MadeLemmas.{made-within}
 use Rattle.dp_tables.specs.SessionLog.{state_in}
