@@ -10,14 +10,14 @@ use Rattle.dp_messages.specs.Messages.{entry_bytes}
 use Rattle.dp_history.specs.Frames.{Frames, frames_of, ends_from, AreFramesOf}
 
 -- the first frames and the others
-frames-split : (at : ℕ) (entries : List Entry)
+pub frames-split : (at : ℕ) (entries : List Entry)
     → frames_of entries ≡ frames_of (take at entries) ++ frames_of (drop at entries)
 frames-split at entries =
     ap frames_of (sym (take-append-drop at entries))
     ∙ flat_map-append entry_bytes (take at entries) (drop at entries)
 
 -- the frames from a place on
-frames-rest : (at : ℕ) (entries : List Entry)
+pub frames-rest : (at : ℕ) (entries : List Entry)
     → drop (length (frames_of (take at entries))) (frames_of entries) ≡ frames_of (drop at entries)
 frames-rest at entries =
     ap (drop (length (frames_of (take at entries)))) (frames-split at entries)
@@ -74,14 +74,14 @@ ends-at n (entry ∷ entries) (suc i) within =
       next k = omega arith
 
 -- the frames with one more
-frames-more : (entries : List Entry) (entry : Entry)
+pub frames-more : (entries : List Entry) (entry : Entry)
     → frames_of (entries ++ entry ∷ []) ≡ frames_of entries ++ entry_bytes entry
 frames-more entries entry =
     flat_map-append entry_bytes entries (entry ∷ [])
     ∙ ap (λ xs. frames_of entries ++ xs) (append-nil (entry_bytes entry))
 
 -- where they end
-ends-more : (n : ℕ) (entries : List Entry) (entry : Entry)
+pub ends-more : (n : ℕ) (entries : List Entry) (entry : Entry)
     → ends_from n (entries ++ entry ∷ [])
     ≡ ends_from n entries ++ (n + length (frames_of (entries ++ entry ∷ []))) ∷ []
 ends-more n [] entry =

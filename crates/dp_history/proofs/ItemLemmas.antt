@@ -19,7 +19,7 @@ use Rattle.dp_acl.specs.Table.{StandsFor}
 use Rattle.dp_epochs.specs.declared.event.Event.{Event}
 use Rattle.dp_epochs.specs.declared.event.Event.TheVariants as event
 use Rattle.dp_history.specs.declared.opening.Opening.{Opening}
-use Rattle.dp_epochs.specs.State.{stays, here, entry_of, is_name, user_ids}
+use Rattle.dp_epochs.specs.State.{stays, entry_of, is_name, user_ids}
 use Rattle.dp_history.specs.Users.{mark}
 use Rattle.dp_history.specs.Items.{commands_in, entry_in, IsIn, join_of, part_of, IsPart}
 use Rattle.dp_history.specs.Openings.{Holds}

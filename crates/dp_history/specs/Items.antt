@@ -1,5 +1,5 @@
 -- Entries of a history as they are kept beside a journal.
-use Rattle.std.specs.Prelude.{◌≡◌, ℕ, ◌-◌, true}
+use Rattle.std.specs.Prelude.{◌≡◌, ℕ, true}
 use Rattle.std.specs.Prelude.{if◌then◌else◌, Option, None, Some, is_some, unwrap_or}
 use Rattle.std.specs.Prelude.{List, slice_get}
 use Rattle.std.specs.List.{filter_map}

@@ -1,4 +1,6 @@
 pub mod Frames
 pub mod Items
+pub mod Made
+pub mod Moves
 pub mod Openings
 pub mod Users

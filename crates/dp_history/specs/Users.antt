@@ -1,5 +1,5 @@
 -- Which users are marked as present, by which events they joined, and who becomes operator.
-use Rattle.std.specs.Prelude.{◌≡◌, ℕ, ◌-◌, ◌≤◌, ◌&&◌, Bool, true, false, if◌then◌else◌, Option}
+use Rattle.std.specs.Prelude.{◌≡◌, ℕ, ◌≤◌, ◌&&◌, Bool, true, false, if◌then◌else◌, Option}
 use Rattle.std.specs.Prelude.{None, Some, is_some, List, slice_get, slice_index_or, not}
 use Rattle.std.specs.List.{find, list_any}
 use Rattle.dp_messages.specs.declared.message.Entry.{Entry}

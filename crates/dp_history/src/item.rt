@@ -300,7 +300,12 @@ fn write_at(
 }
 
 /// Makes the frames of the entries that have none yet, as far as memory goes.
-pub fn write_all(alloc: Global, journal: &[Event], live: &[HistoryItem], frames: &mut FrameLog)
+pub(crate) fn write_all(
+    alloc: Global,
+    journal: &[Event],
+    live: &[HistoryItem],
+    frames: &mut FrameLog,
+)
     requires { All (IsIn journal.now) live.now }
     ensures { AreWritten frames.old (map (entry_in journal.now) live.now)
         → AreWritten frames.new (map (entry_in journal.now) live.now) }

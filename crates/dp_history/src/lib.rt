@@ -2,14 +2,13 @@
 //! entries, made once for all who get them, and how the next epoch opens.
 #![tactic(auto)]
 
+mod frames;
 mod item;
 mod log;
 mod opening;
 mod presence;
 
-pub use item::{
-    HistoryItem, copies, count_kept, entry, join_entry, name_text, put_item, write_all,
-};
-pub use log::FrameLog;
+pub use frames::HistoryFrames;
+pub use item::{HistoryItem, copies, count_kept, entry, join_entry, name_text, put_item};
 pub use opening::Opening;
 pub use presence::{first_operator, free_id, next_operator, present_ids};

@@ -1,9 +1,11 @@
 //! The frames of a history, as they are sent.
 
 ghost use Rattle.std.specs.Prelude.{◌≡◌, ◌+◌, ◌<◌, ◌≤◌, ◌∷◌, ◌++◌, [], List, length, take, drop};
-ghost use Rattle.std.specs.Prelude.{◌-◌, ◌⊎◌, slice_index_or, IfOk, OnOk, OnErr};
+ghost use Rattle.std.specs.Prelude.{ℕ, ◌-◌, ◌⊎◌, slice_index_or, IfOk, OnOk, OnErr};
 ghost use Rattle.dp_messages.specs.declared.message.Entry.{Entry as Piece};
+ghost use Rattle.std.specs.Prelude.{if◌then◌else◌};
 ghost use Rattle.dp_history.specs.Frames.{AreFramesOf, IsShort, frames_of};
+ghost use Rattle.dp_history.specs.Moves.{AreMoved};
 
 use dp_lists::{prefix_of, rest_of};
 use dp_messages::{Msg, put_message};
@@ -27,6 +29,17 @@ impl Model for FrameLog {
     ghost Value = { Frames };
 
     ghost view = { λ log. record { bytes = log.bytes.items; ends = log.ends.items } };
+}
+
+/// How far the frames of a log were looked at, from its first on, and which of them were kept.
+#[derive(Clone, Copy)]
+pub(crate) struct Moved {
+    /// Where the next frame begins.
+    begin: usize,
+    /// How many bytes the frames that were kept have.
+    size: usize,
+    /// How many were kept.
+    count: usize,
 }
 
 /// How many of the frames that end at these places end up to a limit, or one.
@@ -55,17 +68,10 @@ impl FrameLog {
         }
     }
 
-    /// Takes all frames away.
-    pub fn clear(&mut self)
-        ensures { AreFramesOf self.new [] }
-    {
-        self.bytes.clear();
-        self.ends.clear();
-    }
-
     /// How many frames there are.
     pub fn len(&self) -> usize
-        ensures { (entries : List Piece) → AreFramesOf self.now entries
+        ensures ends { result ≡ length self.now.ends }
+        ensures entries { (entries : List Piece) → AreFramesOf self.now entries
             → result ≡ length entries }
     {
         self.ends.len()
@@ -120,5 +126,58 @@ impl FrameLog {
         let size = self.start(at + count).saturating_sub(start);
         out.extend_from_slice(prefix_of(rest_of(&self.bytes, start), size))?;
         Ok(count)
+    }
+
+    /// Where the memory of the frames comes from.
+    pub(crate) fn allocator(&self) -> Global {
+        *self.bytes.allocator()
+    }
+
+    /// Leaves out the frames before a place.
+    pub(crate) fn skip(&self, at: usize) -> Moved
+        requires { (entries : List Piece) × AreFramesOf self.now entries × (at ≤ length entries) }
+        ensures { (entries : List Piece) → AreFramesOf self.now entries
+            → AreMoved self.now at result [] (drop at entries) }
+    {
+        Moved {
+            begin: self.start(at),
+            size: 0,
+            count: 0,
+        }
+    }
+
+    /// Looks at the frame at a place. It is moved down to those that were kept, or left out.
+    pub(crate) fn pass(&mut self, at: usize, keeps: bool, moved: Moved) -> Moved
+        requires { (kept : List Piece) × (entry : Piece) × (left : List Piece)
+            × AreMoved self.old at moved kept (entry ∷ left) }
+        ensures { (kept : List Piece) (entry : Piece) (left : List Piece)
+            → AreMoved self.old at moved kept (entry ∷ left)
+            → AreMoved self.new (at + 1) result
+            (if keeps then kept ++ entry ∷ [] else kept) left }
+    {
+        let end = self.ends[at];
+        if !keeps {
+            return Moved {
+                begin: end,
+                ..moved
+            };
+        }
+        let size = moved.size + (end - moved.begin);
+        self.bytes.copy_within(moved.begin..end, moved.size);
+        self.ends[moved.count] = size;
+        Moved {
+            begin: end,
+            size,
+            count: moved.count + 1,
+        }
+    }
+
+    /// Takes all frames away but those that were kept.
+    pub(crate) fn cut(&mut self, moved: Moved)
+        ensures { (at : ℕ) (kept : List Piece) → AreMoved self.old at moved kept []
+            → AreFramesOf self.new kept }
+    {
+        self.bytes.truncate(moved.size);
+        self.ends.truncate(moved.count);
     }
 }

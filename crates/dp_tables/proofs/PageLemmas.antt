@@ -1,6 +1,7 @@
 -- Pages of a history, and the frames of its first entries.
 use Rattle.std.proofs.Common.{◌≡◌, ℕ, ◌+◌, ◌<◌, ◌≤◌, max, List, ◌∷◌, ◌++◌, length, []}
-use Rattle.std.proofs.Common.{map, take, drop, Some, Result, Ok, Err, IfOk, sym, ap, ◌∙◌}
+use Rattle.std.proofs.Common.{map, take, drop, append-nil, Some, Result, Ok, Err, IfOk, sym, ap}
+use Rattle.std.proofs.Common.{◌∙◌}
 use Rattle.std.proofs.Common.{arith}
 use Rattle.std.specs.List.{slice_get}
 use Rattle.std.proofs.lemmas.List.{drop-take, take-append-le, length-take-le, length-drop}
@@ -8,7 +9,9 @@ use Rattle.std.proofs.lemmas.List.{take-take}
 use Rattle.dp_messages.specs.declared.message.Entry.{Entry}
 use Rattle.dp_epochs.specs.declared.event.Event.{Event}
 use Rattle.dp_epochs.specs.Pull.{page}
-use Rattle.dp_history.specs.Frames.{Frames, AreFramesOf, frames_of}
+use Rattle.dp_history.specs.declared.frames.HistoryFrames.{HistoryFrames}
+use Rattle.dp_history.specs.Frames.{frames_of}
+use Rattle.dp_history.specs.Made.{AreMadeOf}
 use Rattle.dp_history.specs.declared.item.HistoryItem.{HistoryItem}
 use Rattle.dp_history.specs.Items.{entry_in}
 use Rattle.dp_tables.proofs.ReadLemmas.{page-is}
@@ -50,25 +53,21 @@ length-of-prefix written at count within =
     sym (length-take-le count (drop at written) (omega (arith, within, length-drop at written)))
 
 -- frames that were put are a page
-pub prefix-put : {E : Type 0} (r : Result ℕ E) (frames : Frames) (written rest live : List Entry)
-    (end at most : ℕ) (old new : List ℕ) → live ≡ written ++ rest
-    → at + most ≤ length written → at + most ≤ end → AreFramesOf frames written
+pub made-put : {E : Type 0} (r : Result ℕ E) (frames : HistoryFrames) (live : List Entry)
+    (end at most : ℕ) (old new : List ℕ) → at + most ≤ length live → at + most ≤ end
+    → AreMadeOf frames live
     → IfOk r (λ count. 0 < count) → IfOk r (λ count. count ≤ most)
-    → IfOk r (λ count. (entries : List Entry) → AreFramesOf frames entries
-    → new ≡ old ++ frames_of (take count (drop at entries)))
+    → IfOk r (λ count. (history : List Entry) → AreMadeOf frames history
+    → new ≡ old ++ frames_of (take count (drop at history)))
     → IfOk r (λ count. (m : ℕ) × (count ≡ length (page at m (take end live)))
     × (new ≡ old ++ frames_of (page at m (take end live))))
-prefix-put (Ok count) frames written rest live end at most old new all within before are some few
-    put
-    =
-    let inside : at + count ≤ length written = omega (arith, few, within) in
+made-put (Ok count) frames live end at most old new within before are some few put =
+    let inside : at + count ≤ length live = omega (arith, few, within) in
     let same =
-    page-of-prefix written rest live end at count all inside (omega (arith, few, before)) some in (
+    page-of-prefix live [] live end at count (sym (append-nil live)) inside
+    (omega (arith, few, before)) some in (
       count,
-      length-of-prefix written at count inside ∙ ap length same,
-      put written are ∙ ap (λ xs. old ++ frames_of xs) same,
+      length-of-prefix live at count inside ∙ ap length same,
+      put live are ∙ ap (λ xs. old ++ frames_of xs) same,
     )
-prefix-put (Err e) frames written rest live end at most old new all within before are some few put =
-    put
-
--- ---- one frame more
+made-put (Err e) frames live end at most old new within before are some few put = put

@@ -4,7 +4,7 @@ use Rattle.std.proofs.Common.{drop, All}
 use Rattle.std.proofs.Common.{[]}
 use Rattle.std.proofs.Common.{nat_lt, nat_le, is_some, List, ◌∷◌, ◌++◌, length, map}
 use Rattle.std.proofs.Common.{Option, None, Some}
-use Rattle.std.proofs.Common.{refl, sym, ap, ◌∙◌, ⊎_elim, arith}
+use Rattle.std.proofs.Common.{refl, sym, ap, subst, ◌∙◌, ⊎_elim, arith}
 use Rattle.std.proofs.Common.{length-append}
 use Rattle.std.specs.List.{filter, filter_map, cons_option, range_with_len, sum_by}
 use Rattle.std.specs.Option.{option_map}
@@ -23,13 +23,24 @@ use Rattle.dp_acl.specs.Opening.{command_entry, goes_over, last_join, part_limit
 use Rattle.dp_epochs.specs.State.{State, Stream, epoch_of, is_present, present_users}
 use Rattle.dp_epochs.specs.State.{user_ids, fits_reset, part_bytes, reset_byte_limit}
 use Rattle.dp_epochs.specs.State.{sent_commands, kept_by}
+use Rattle.dp_epochs.specs.declared.event.Event.{Event}
+use Rattle.dp_epochs.specs.declared.effect.Effect.{Effect}
+use Rattle.dp_epochs.specs.declared.effect.Effect.TheVariants.{Reopened}
+use Rattle.dp_epochs.specs.Effects.{entries_of, live_after}
 use Rattle.dp_epochs.proofs.OpeningLemmas.{kept-few, going-few}
+use Rattle.dp_history.specs.declared.frames.HistoryFrames.{HistoryFrames}
+use Rattle.dp_history.specs.Made.{AreMadeOf, going_over}
+use Rattle.dp_history.proofs.MadeLemmas.{made-on}
+use Rattle.dp_tables.specs.declared.ready.Supply.{Supply}
+use Rattle.dp_tables.specs.declared.ready.Supply.TheVariants.{Entries, Opens}
+use Rattle.dp_tables.specs.Ready.{AreFramesWith, IsSupply}
 use Rattle.dp_history.specs.declared.item.HistoryItem.{HistoryItem}
 use Rattle.dp_history.specs.Items.{commands_in, entry_in, IsIn}
 use Rattle.dp_history.specs.Users.{mark}
 use Rattle.dp_tables.specs.Tables.{Seen, AreOf, start_of, stream_in}
 use Rattle.dp_history.proofs.Ranges.{filter-range_same}
 use Rattle.dp_tables.proofs.TableLemmas.{present-marked, sent-in, length-commands, live-length}
+use Rattle.dp_tables.proofs.TableLemmas.{live-more}
 
 -- ---- limits
 
@@ -217,3 +228,39 @@ module _ (s : State) (t : Seen) (are : AreOf s t) where
 
   pub kept-short : length kept ≤ length s.live
   kept-short = omega (arith, kept-few s.stream s.live, going-few s.live)
+
+  -- the entries that go over end the new history
+  going-last : going_over (drop (start_of t.owner t.place (length t.live))
+      (map (entry_in t.journal) t.live)) ≡ kept
+  going-last =
+      ap going_over
+      (drop-map (entry_in t.journal) (start_of t.owner t.place (length t.live)) t.live)
+      ∙ kept-is
+
+-- ---- frames
+
+-- the frames that were made of the live history are those of it after the event
+pub frames-kept : (s : State) (t : Seen) → AreOf s t → (e : Event) (effect : Effect)
+    (supply : Supply) (old new : HistoryFrames) → IsSupply t.journal s e effect supply
+    → AreFramesWith (map (entry_in t.journal) t.live)
+    (start_of t.owner t.place (length t.live)) supply old new
+    → AreMadeOf old s.live → AreMadeOf new (live_after s e effect)
+frames-kept s t are e effect (Entries first second) old new is same made =
+    subst (AreMadeOf new) (sym (live-more s e effect is.0).0)
+    (made-on new s.live (entries_of e effect) (subst (λ f. AreMadeOf f s.live) (sym same) made))
+frames-kept s t are e (Reopened conn c) (Opens opened) old new is keeps made =
+    let users = present_users s in
+    let commands = sent_commands s.stream in
+    let kept_now = kept_by s.stream s.live in
+    let going = going_over (drop (start_of t.owner t.place (length t.live))
+    (map (entry_in t.journal) t.live)) in
+    let before = server_entry (ResetMark (epoch_of s + 1)
+    (length (carried_entries s.live users commands kept_now)))
+    ∷ (filter_map (last_join s.live) users ++ map server_entry (carried s.live users)
+    ++ map command_entry commands) in
+    let whole : before ++ going ≡ opening (epoch_of s + 1) s.live users commands kept_now =
+    ap (λ xs. before ++ xs) (going-last s t are) in
+    subst (AreMadeOf new) whole (keeps before
+    (sym (length-map opened.live.items (entry_in t.journal)) ∙ ap length is.1.entries
+    ∙ sym (ap length whole)))
+frames-kept s t are e effect (Opens opened) old new is keeps made = cc

@@ -56,7 +56,7 @@ use Rattle.dp_tables.specs.declared.tables.Tables.TheInside.{Inside}
 use Rattle.dp_epochs.specs.Rows.{row_of, row_bytes, event_limit, byte_limit}
 use Rattle.dp_epochs.specs.Past.{Past, state_after, state_of, kept, refused}
 use Rattle.dp_epochs.specs.Laws.{ShutBefore, shut_by}
-use Rattle.dp_history.specs.Frames.{Frames, AreFramesOf, AreWritten}
+use Rattle.dp_history.specs.Made.{AreMadeOf}
 use Rattle.dp_history.specs.declared.opening.Opening.{Opening}
 use Rattle.dp_history.specs.Openings.{Holds}
 use Rattle.dp_tables.specs.SessionLog.{SessionLog, state_in}
@@ -70,7 +70,7 @@ use Rattle.dp_tables.specs.Inside.{is_ready, ledger_of, seen, AreTables}
 use Rattle.dp_tables.specs.Ready.{own_entries, own_items, SaysOwn, opens_epoch, supplied, IsSupply}
 use Rattle.dp_tables.specs.Ready.{unboxed, server_items}
 use Rattle.std.specs.Global.{Box}
-use Rattle.dp_tables.specs.Ready.{items_after, IsWithSupply, AreFramesWith, epoch_with, marks_after}
+use Rattle.dp_tables.specs.Ready.{items_after, IsWithSupply, epoch_with, marks_after}
 use Rattle.dp_tables.specs.Ready.{opens_after, quiet_after, closed_in, unmarked, is_sender}
 use Rattle.dp_tables.specs.Ready.{owner_after, next_place, parts_after, bytes_after, MayKeep}
 use Rattle.dp_lists.proofs.Numbered.{number-found}
@@ -718,22 +718,6 @@ no-marks n user =
     (omega (arith, length-replicate n false)))
     (cases_lt user n)
 
--- no frame is one of a history
-pub none-written : (frames : Frames) (history : List Entry) → AreFramesOf frames []
-    → AreWritten frames history
-none-written frames history none =
-    record { written = []; rest = history; of = none; all = refl }
-
--- what is written of a history is so of a longer one
-pub written-on : (frames : Frames) (history more : List Entry) → AreWritten frames history
-    → AreWritten frames (history ++ more)
-written-on frames history more are = record {
-  written = are.written;
-  rest = are.rest ++ more;
-  of = are.of;
-  all = ap (λ xs. xs ++ more) are.all ∙ append_assoc are.written are.rest more;
-}
-
 -- the tables of a session to which nothing has come
 pub tables-first : (t : Inside) (begun : Opening) → Holds [] begun first_state.live
     → t.journal.items ≡ [] → t.shut.items ≡ [] → t.connections.items ≡ [] → t.quiet.items ≡ []
@@ -741,8 +725,8 @@ pub tables-first : (t : Inside) (begun : Opening) → Holds [] begun first_state
     → t.rights ≡ begun.rights.value → t.present ≡ replicate 256 false → t.epoch ≡ 0
     → t.opens ≡ replicate 256 0 → t.owner ≡ None → t.place ≡ None → t.parts.items ≡ []
     → t.part_bytes ≡ 0
-    → AreFramesOf t.frames [] → AreTables t
-tables-first t begun holds ej es ec eq el eb er ep ee eo eu eh ek ez none =
+    → ((history : List Entry) → AreMadeOf t.frames history) → AreTables t
+tables-first t begun holds ej es ec eq el eb er ep ee eo eu eh ek ez made =
     let first : Seen = record {
       journal = [];
       connections = [];
@@ -790,7 +774,7 @@ tables-first t begun holds ej es ec eq el eb er ep ee eo eu eh ek ez none =
       events = omega (arith, ap length ej);
       within = omega (arith, eb);
       flags = ap length eq ∙ sym (ap length ec);
-      frames = none-written t.frames (state_in (ledger_of t)).live none;
+      frames = made (state_in (ledger_of t)).live;
     }
 
 -- ---- ledgers
@@ -905,17 +889,7 @@ pub record IsKept (old : Inside) (e : Event) (effect : Effect) (supply : Supply)
       ≡ parts_after (length old.journal.items) effect old.owner old.parts.items
   pub part_bytes : new.part_bytes
       ≡ bytes_after (row_length - 6) effect old.owner old.part_bytes
-  pub frames : AreFramesWith supply old.frames new.frames
-
--- the frames that were made are those of the live history's first entries, or there are none
-frames-kept : (journal : List Event) (s : State) (e : Event) (effect : Effect) (supply : Supply)
-    (old new : Frames) → IsSupply journal s e effect supply → AreFramesWith supply old new
-    → AreWritten old s.live → AreWritten new (live_after s e effect)
-frames-kept journal s e effect (Entries first second) old new is same are =
-    subst (AreWritten new) (sym (live-more s e effect is.0).0)
-    (written-on new s.live (entries_of e effect) (subst (λ f. AreWritten f s.live) (sym same) are))
-frames-kept journal s e effect (Opens opening) old new is none are =
-    none-written new (live_after s e effect) none
+  pub frames : AreMadeOf new.frames (live_after (state_in (ledger_of old)) e effect)
 
 pub row-length : (conn : ℕ) (m : Msg) → length (row_of (event.Say conn m)) ≡ 6 + length
     (payload_of m)
@@ -997,11 +971,9 @@ tables-kept leads joins made_law old new e effect supply row_length are is keeps
       flags = ap length keeps.quiet
           ∙ flags-after (here s) effect old.quiet.items old.connections.items are.flags
           ∙ sym (ap length keeps.connections);
-      frames = subst (AreWritten new.frames)
+      frames = subst (AreMadeOf new.frames)
           (sym (ap (λ a. a.state.live) (made_law s e effect is.does))
-          ∙ sym (ap (λ x. x.live) state_is))
-          (frames-kept old.journal.items s e effect supply old.frames new.frames is.places
-          keeps.frames are.frames);
+          ∙ sym (ap (λ x. x.live) state_is)) keeps.frames;
     }
 
 -- ---- a Close was left out
@@ -1077,7 +1049,7 @@ tables-left leads old new conn are left =
       flags = ap length left.quiet ∙ are.flags
           ∙ sym (ap length left.connections
           ∙ length-closed conn (open_in old.connections.items conn) old.connections.items);
-      frames = subst (λ x. AreWritten x (state_in (ledger_of new)).live) (sym left.frames)
-          (subst (AreWritten old.frames) (sym (ap (λ x. x.live) state_is ∙ live-shut s conn o))
+      frames = subst (λ x. AreMadeOf x (state_in (ledger_of new)).live) (sym left.frames)
+          (subst (AreMadeOf old.frames) (sym (ap (λ x. x.live) state_is ∙ live-shut s conn o))
           are.frames);
     }

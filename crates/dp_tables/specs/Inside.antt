@@ -3,7 +3,7 @@ use Rattle.std.specs.Prelude.{◌≡◌, ◌+◌, ◌≤◌, ◌&&◌, Bool, nat
 use Rattle.std.specs.Prelude.{vec_capacity}
 use Rattle.dp_epochs.specs.Rows.{row_bytes, event_limit, byte_limit}
 use Rattle.dp_tables.specs.declared.tables.Tables.TheInside.{Inside}
-use Rattle.dp_history.specs.Frames.{AreWritten}
+use Rattle.dp_history.specs.Made.{AreMadeOf}
 use Rattle.dp_tables.specs.SessionLog.{SessionLog, state_in}
 use Rattle.dp_tables.specs.Tables.{Seen, AreOf, quiet_of}
 
@@ -51,4 +51,4 @@ pub record AreTables (t : Inside) : Type 0 where
   pub events : length t.journal.items ≤ event_limit
   pub within : t.row_bytes ≤ byte_limit
   pub flags : length t.quiet.items ≡ length t.connections.items
-  pub frames : AreWritten t.frames (state_in (ledger_of t)).live
+  pub frames : AreMadeOf t.frames (state_in (ledger_of t)).live

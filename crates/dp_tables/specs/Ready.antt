@@ -1,7 +1,7 @@
 -- What is ready to be kept of an event, and what keeping it makes of the tables.
 use Rattle.std.specs.Prelude.{◌≡◌, ℕ, ◌+◌, ◌-◌, ◌==◌, Bool, true, false, []}
 use Rattle.std.specs.Prelude.{if◌then◌else◌, Option, None, Some}
-use Rattle.std.specs.Prelude.{List, ◌∷◌, ◌++◌, length, slice_set}
+use Rattle.std.specs.Prelude.{List, ◌∷◌, ◌++◌, length, drop, slice_set}
 use Rattle.std.specs.Global.{Box}
 use Rattle.dp_messages.specs.declared.message.Entry.{Entry}
 use Rattle.dp_epochs.specs.declared.connection.Connection.{Connection}
@@ -15,8 +15,9 @@ use Rattle.dp_epochs.specs.Rows.{row_of, has_room}
 use Rattle.dp_epochs.specs.State.{State, entry_of, connection_in, place_in}
 use Rattle.dp_history.specs.declared.item.HistoryItem.{HistoryItem}
 use Rattle.dp_history.specs.declared.item.HistoryItem.TheVariants as item
-use Rattle.dp_history.specs.Frames.{Frames, AreFramesOf}
+use Rattle.dp_history.specs.declared.frames.HistoryFrames.{HistoryFrames}
 use Rattle.dp_history.specs.Items.{IsSay}
+use Rattle.dp_history.specs.Made.{AreMadeOf, going_over}
 use Rattle.dp_history.specs.Openings.{Holds}
 use Rattle.dp_tables.specs.declared.ready.Supply.{Supply}
 use Rattle.dp_tables.specs.declared.ready.Supply.TheVariants.{Entries, Opens}
@@ -80,10 +81,14 @@ IsWithSupply journal (Entries first second) history next =
     next ≡ history ++ (unboxed first ++ unboxed second)
 IsWithSupply journal (Opens opening) history next = Holds journal opening next
 
--- the frames that were made stay, or there are none
-abbrev pub AreFramesWith : Supply → Frames → Frames → Type 0
-AreFramesWith (Entries first second) old new = new ≡ old
-AreFramesWith (Opens opening) old new = AreFramesOf new []
+-- The frames that were made of a history stay. If it begins anew with what was made ahead, those
+-- of its entries from a place on that go over, which end the new one, are made of that.
+abbrev pub AreFramesWith : List Entry → ℕ → Supply → HistoryFrames → HistoryFrames → Type 0
+AreFramesWith history from (Entries first second) old new = new ≡ old
+AreFramesWith history from (Opens opening) old new =
+    (before : List Entry)
+    → length opening.live.items ≡ length (before ++ going_over (drop from history))
+    → AreMadeOf new (before ++ going_over (drop from history))
 
 -- the number of the live epoch
 abbrev pub epoch_with : Supply → ℕ → ℕ

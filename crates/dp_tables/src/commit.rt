@@ -17,6 +17,8 @@ ghost use Rattle.std.specs.Prelude.{
   vec_len,
   vec_capacity,
   true,
+  All,
+  map,
 };
 ghost use Rattle.dp_messages.specs.declared.message.Entry.{Entry as Piece};
 ghost use Rattle.dp_acl.specs.Table.{StandsFor};
@@ -24,7 +26,8 @@ ghost use Rattle.dp_epochs.specs.declared.event.Event.{Event as Kept};
 ghost use Rattle.dp_epochs.specs.Effects.{connections_at, own_message};
 ghost use Rattle.dp_epochs.specs.State.{acted, entry_of, open_in, place_in};
 ghost use Rattle.dp_epochs.specs.Past.{shut_with, quiet_with};
-ghost use Rattle.dp_history.specs.Items.{IsSay};
+ghost use Rattle.dp_history.specs.Items.{entry_in, IsIn, IsSay};
+ghost use Rattle.dp_history.specs.Made.{AreMadeOf};
 ghost use Rattle.dp_tables.specs.SessionLog.{state_in};
 ghost use Rattle.dp_tables.specs.Tables.{flagged};
 ghost use Rattle.dp_tables.specs.Ready.{own_entries, own_items, SaysOwn, supplied, items_after};
@@ -35,13 +38,14 @@ ghost use Rattle.dp_tables.specs.Ready.{is_sender, owner_after, next_place, part
 ghost use Rattle.dp_tables.specs.Ready.{bytes_after, MayKeep, IsReady};
 
 use crate::ready::{Ready, Supply};
+use crate::resets::start_of;
 use crate::tables::{Tables, open_connection};
 use dp_acl::Rights;
 use dp_epochs::{
     Connection, Effect, Ending, Event, Place, Reply, ShutAt, effects_are_made, epochs_are_few,
     joins_stay, steps_lead_on,
 };
-use dp_history::{FrameLog, HistoryItem};
+use dp_history::{HistoryFrames, HistoryItem};
 use dp_messages::{Entry, Msg};
 use dp_msg_meta::Control;
 
@@ -112,11 +116,28 @@ fn place_server(live: &mut Vec<HistoryItem>, rights: &mut Rights, entry: Option<
     }
 }
 
+/// Keeps the frames of the entries from a place on that go over, if an epoch opens.
+fn keep_frames(
+    frames: &mut HistoryFrames,
+    journal: &[Event],
+    live: &[HistoryItem],
+    from: usize,
+    supply: &Supply,
+)
+    requires said { All (IsIn journal.now) live.now }
+    requires made { AreMadeOf frames.old (map (entry_in journal.now) live.now) }
+    ensures { AreFramesWith (map (entry_in journal.now) live.now) from supply.now frames.old
+        frames.new }
+{
+    if let Supply::Opens(opening) = supply {
+        frames.keep(journal, live, from, opening.live.len());
+    }
+}
+
 /// Places the event's own entry, which was noted, and what was made ahead.
 fn place(
     epoch: &mut u32,
     live: &mut Vec<HistoryItem>,
-    frames: &mut FrameLog,
     rights: &mut Rights,
     own: Option<HistoryItem>,
     supply: Supply,
@@ -130,7 +151,6 @@ fn place(
     ensures stands { (journal : List Kept) (history : List Piece) (next : List Piece)
         → StandsFor rights.old history → IsWithSupply journal supply history next
         → StandsFor rights.new next }
-    ensures frames { AreFramesWith supply frames.old frames.new }
 {
     match supply {
         Supply::Entries { first, second } => {
@@ -143,7 +163,6 @@ fn place(
         Supply::Opens(opening) => {
             *epoch += 1;
             *live = opening.live;
-            frames.clear();
             *rights = Box::into_inner(opening.rights);
         }
     }
@@ -348,6 +367,8 @@ impl Tables {
         let here = self.here();
         let reply = effect.reply(here, self.connections.len() as u32);
         let n = self.journal.len() as u32;
+        let from = start_of(self.owner, self.place, self.live.len());
+        keep_frames(&mut self.frames, &self.journal, &self.live, from, &supply);
         self.row_bytes += row_length;
         note_place(&mut self.place, effect, &event);
         follow(
@@ -371,7 +392,6 @@ impl Tables {
         place(
             &mut self.epoch,
             &mut self.live,
-            &mut self.frames,
             &mut self.rights,
             own_item(n, effect),
             supply,

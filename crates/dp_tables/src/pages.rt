@@ -31,14 +31,14 @@ ghost use Rattle.dp_epochs.specs.Pull.{page, pulled_from, pulled_by_left, pulled
 ghost use Rattle.dp_tables.specs.SessionLog.{state_in};
 ghost use Rattle.dp_messages.specs.declared.message.Entry.{Entry as Piece};
 ghost use Rattle.dp_messages.specs.Messages.{entry_bytes};
-ghost use Rattle.dp_history.specs.Frames.{AreFramesOf, AreWritten, IsShort, frames_of};
+ghost use Rattle.dp_history.specs.Frames.{IsShort, frames_of};
 ghost use Rattle.dp_tables.specs.Pages.{answer_of, IsBounded, IsPage, page_most};
 ghost use Rattle.dp_history.specs.Items.{entry_in, IsIn, IsSay, join_of, message_of, part_of};
 ghost use Rattle.dp_history.specs.Users.{mark};
 
 use crate::tables::Tables;
 use dp_epochs::{Answer, Ending, Entries, Event, Place};
-use dp_history::{copies, put_item, write_all};
+use dp_history::{copies, put_item};
 use dp_lists::{prefix_of, rest_of};
 use dp_messages::{Entry, Msg, put_entry};
 use dp_msg_meta::Meta;
@@ -188,9 +188,9 @@ impl Tables {
         ensures short { IfOk result (λ count. IsShort count out.old.items out.new.items) }
         ensures err { OnErr result (out.new.items ≡ out.old.items) }
     {
-        let written = self.frames.len().min(end);
-        if at < written {
-            self.frames.put(at, PAGE.min(written - at), out)
+        let made = self.frames.made_at(at).min(end.saturating_sub(at));
+        if made > 0 {
+            self.frames.put(at, PAGE.min(made), out)
         } else {
             self.put_one(end, at, out)
         }
@@ -231,6 +231,6 @@ impl Tables {
         ensures { self.new ≡ self.old }
     {
         let alloc = self.allocator();
-        write_all(alloc, &self.journal, &self.live, &mut self.frames);
+        self.frames.write(alloc, &self.journal, &self.live);
     }
 }

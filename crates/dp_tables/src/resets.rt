@@ -47,7 +47,7 @@ const BYTE_LIMIT: u64 = 1 << 28;
 
 /// From where on a history, which ends there, is kept by the reset of the connection, if it sends
 /// one, by the place that it names.
-fn start_of(owner: Option<u32>, place: Option<u32>, end: usize) -> usize
+pub(crate) fn start_of(owner: Option<u32>, place: Option<u32>, end: usize) -> usize
     ensures { result ≡ start_of owner place end }
 {
     match owner {

@@ -30,7 +30,7 @@ ghost use Rattle.dp_tables.specs.SessionLog.{state_in};
 use crate::resets::mark;
 use dp_acl::Rights;
 use dp_epochs::{Connection, Ending, Event, Place, ShutAt, histories_are_short};
-use dp_history::{FrameLog, HistoryItem, Opening};
+use dp_history::{HistoryFrames, HistoryItem, Opening};
 use dp_messages::Msg;
 use std::alloc::{AllocError, Global};
 use std::marker::Model;
@@ -52,8 +52,8 @@ pub struct Tables {
     pub(crate) quiet: Vec<bool>,
     pub(crate) epoch: u32,
     pub(crate) live: Vec<HistoryItem>,
-    /// The frames of the first entries of the live history.
-    pub(crate) frames: FrameLog,
+    /// The frames that were made of the live history.
+    pub(crate) frames: HistoryFrames,
     pub(crate) rights: Rights,
     pub(crate) present: [bool; 256],
     /// For each id, the event of the journal by which its user joined last.
@@ -169,7 +169,7 @@ impl Tables {
             quiet: Vec::new(alloc),
             epoch: 0,
             live,
-            frames: FrameLog::new(alloc),
+            frames: HistoryFrames::new(alloc),
             rights: Box::into_inner(rights),
             present: [false; 256],
             opens: [0; 256],

@@ -1,18 +1,21 @@
 use Rattle.std.proofs.Common.{◌≡◌, ◌-◌, ◌++◌, ◌∷◌, [], true, length, refl, sym, ap}
-use Rattle.std.proofs.Common.{subst, ◌∙◌, arith}
+use Rattle.std.proofs.Common.{subst, ◌∙◌, arith, map, All}
 use Rattle.std.specs.Prelude.{option_to_list}
 use Rattle.dp_epochs.specs.State.{here}
 use Rattle.dp_epochs.specs.Effects.{answer_at, connections_at, live_after}
+use Rattle.dp_history.specs.Items.{entry_in, IsIn}
+use Rattle.dp_history.specs.Made.{AreMadeOf}
 use Rattle.dp_tables.specs.SessionLog.{state_in}
-use Rattle.dp_tables.specs.Tables.{quiet_of}
-use Rattle.dp_tables.specs.Inside.{is_ready, ledger_of}
-use Rattle.dp_tables.specs.Ready.{own_entries, own_items, items_after, opens_after, parts_after}
-use Rattle.dp_tables.specs.Ready.{bytes_after, MayKeep}
+use Rattle.dp_tables.specs.Tables.{quiet_of, start_of}
+use Rattle.dp_tables.specs.Inside.{is_ready, ledger_of, seen}
+use Rattle.dp_tables.specs.Ready.{AreFramesWith, own_entries, own_items, items_after, opens_after}
+use Rattle.dp_tables.specs.Ready.{bytes_after, parts_after, MayKeep}
 use Rattle.dp_tables.proofs.TableLemmas.{epoch-fits, tables-kept, ledger-is, of-ledger, next-is}
 use Rattle.dp_tables.proofs.TableLemmas.{supply-few, ready-live, ready-rights, own-alike}
 use Rattle.dp_tables.proofs.TableLemmas.{own-few, says-own}
 use Rattle.dp_tables.proofs.KeepLemmas.{there-by, connections-fit, row-fits, ready-lists}
 use Rattle.dp_tables.proofs.QuietLemmas.{quiet-stays}
+use Rattle.dp_tables.proofs.ResetLemmas.{frames-kept}
 use Rattle.dp_tables.proofs.tables.Tables.keep_made.Goals as goal
 
 pub overflow_cast-len : goal.overflow_cast-len
@@ -39,6 +42,21 @@ overflow_add-self c =
           MayKeep l c.args.event c.args.effect c.args.supply c.args.row_length) (sym c.self.view_is)
           c.requires.made),
     )
+
+pub keep_frames-requires-clause-said : goal.keep_frames-requires-clause-said
+keep_frames-requires-clause-said c =
+    let t = c.self.inside in
+    subst (λ j. All (IsIn j) c.deref-2.result.now) (sym c.deref.ensures.value)
+    (subst (All (IsIn t.journal.items)) (sym c.deref-2.ensures.value) c.self.invariant.of.said)
+
+pub keep_frames-requires-clause-made : goal.keep_frames-requires-clause-made
+keep_frames-requires-clause-made c =
+    let t = c.self.inside in
+    subst (λ j. AreMadeOf t.frames (map (entry_in j) c.deref-2.result.now))
+    (sym c.deref.ensures.value)
+    (subst (λ xs. AreMadeOf t.frames (map (entry_in t.journal.items) xs))
+    (sym c.deref-2.ensures.value)
+    (subst (AreMadeOf t.frames) (sym c.self.invariant.of.entries) c.self.invariant.frames))
 
 pub follow-requires-clause-parts : goal.follow-requires-clause-parts
 follow-requires-clause-parts c =
@@ -149,6 +167,9 @@ invariant_of-self c =
     (arith, c.saturating_sub.ensures) in
     let here_is : c.here-here.result ≡ here s =
     c.here-here.ensures ∙ ap (λ l. here (state_in l)) (sym c.self.view_is) in
+    let end : c.len-2.result ≡ length t.live.items = omega (arith, t.live.ok.0, c.len-2.ensures) in
+    let from : c.start_of-from.result ≡ start_of t.owner t.place (length t.live.items) =
+    c.start_of-from.ensures ∙ ap (start_of t.owner t.place) end in
     tables-kept c.steps_lead_on.ensures.kept
     (λ s. record {
       present = c.joins_stay.ensures.present s;
@@ -178,7 +199,12 @@ invariant_of-self c =
           ∙ ap (λ n. parts_after n effect t.owner t.parts.items) count;
       part_bytes = c.follow.ensures.bytes
           ∙ ap (λ n. bytes_after n effect t.owner t.part_bytes) size;
-      frames = c.place.ensures.frames;
+      frames = frames-kept s (seen t) c.self.invariant.of e effect supply t.frames
+          c.keep_frames.new.frames is.places
+          (subst (λ n. AreFramesWith (map (entry_in t.journal.items) t.live.items) n supply t.frames
+          c.keep_frames.new.frames) from
+          (rw (c.deref.ensures.value, c.deref-2.ensures.value) at c.keep_frames.ensures))
+          c.self.invariant.frames;
     })
 
 pub returns-clause-kept : goal.returns-clause-kept

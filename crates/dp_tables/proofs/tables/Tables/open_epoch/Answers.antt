@@ -1,4 +1,4 @@
-use Rattle.std.proofs.Common.{◌≡◌, ◌+◌, ◌≤◌, ◌++◌, ◌∷◌, [], length, map, sym, ap, subst, ◌∙◌}
+use Rattle.std.proofs.Common.{◌≡◌, ◌+◌, ◌++◌, ◌∷◌, [], length, map, sym, ap, subst, ◌∙◌}
 use Rattle.std.proofs.Common.{All, arith}
 use Rattle.std.specs.List.{filter, filter_map}
 use Rattle.dp_msg_meta.specs.Fields.{RiseFrom}

@@ -1,0 +1,32 @@
+-- The frames that were made of a history.
+use Rattle.std.specs.Prelude.{◌-◌, ◌≤◌, ℕ, if◌then◌else◌, nat_lt}
+use Rattle.std.specs.Prelude.{List, [], length, take, drop}
+use Rattle.std.specs.List.{filter}
+use Rattle.dp_messages.specs.declared.message.Entry.{Entry}
+use Rattle.dp_acl.specs.Opening.{goes_over}
+use Rattle.dp_history.specs.declared.frames.HistoryFrames.{HistoryFrames}
+use Rattle.dp_history.specs.Frames.{AreFramesOf, AreWritten}
+
+-- they are those of the first entries before a place, and of the first from that place on
+pub record AreMadeOf (frames : HistoryFrames) (history : List Entry) : Type 0 where
+  pub within : frames.base ≤ length history
+  pub front : AreWritten frames.front (take frames.base history)
+  pub rest : AreWritten frames.rest (drop frames.base history)
+
+-- how many were made one after another from a place on
+abbrev pub made_at : HistoryFrames → ℕ → ℕ
+made_at frames at =
+    if nat_lt at frames.base
+    then length frames.front.ends - at
+    else length frames.rest.ends - (at - frames.base)
+
+-- the entries that go over into the next epoch
+abbrev pub going_over : List Entry → List Entry
+going_over entries = filter (λ entry. goes_over entry.msg) entries
+
+-- Of the frames that were made from a place on, those of entries that go over are kept. They stand
+-- from a place of their own on, and there is none before them.
+pub record AreKept (old : HistoryFrames) (at : ℕ) (written : List Entry) (new : HistoryFrames)
+    : Type 0 where
+  pub none : AreFramesOf new.front []
+  pub kept : AreFramesOf new.rest (going_over (drop (at - old.base) written))

@@ -1,0 +1,120 @@
+//! The frames of a history: which were made, and which of them go over into the next epoch.
+
+ghost use Rattle.std.specs.Prelude.{◌≡◌, ◌+◌, ◌<◌, ◌≤◌, ◌++◌, List, All, map, length, take, drop};
+ghost use Rattle.std.specs.Prelude.{IfOk, OnErr};
+ghost use Rattle.dp_messages.specs.declared.message.Entry.{Entry as Piece};
+ghost use Rattle.dp_history.specs.Frames.{AreFramesOf, AreWritten, IsShort, frames_of};
+ghost use Rattle.dp_history.specs.Items.{entry_in, IsIn};
+ghost use Rattle.dp_history.specs.Made.{AreKept, AreMadeOf, going_over, made_at};
+
+use crate::item::{HistoryItem, count_kept, is_kept, write_all};
+use crate::log::FrameLog;
+use dp_epochs::Event;
+use dp_lists::{prefix_of, rest_of};
+use std::alloc::{AllocError, Global};
+
+/// The frames of a history, as far as they were made. An epoch opens with entries of its own, whose
+/// frames are to be made, and with those that it keeps, whose frames were made before.
+#[derive(Drop)]
+pub struct HistoryFrames {
+    /// Frames of the entries before a place.
+    front: FrameLog,
+    /// That place.
+    base: usize,
+    /// Frames of the entries from there on.
+    rest: FrameLog,
+}
+
+/// Keeps the frames of those entries from a place on that go over. It takes no memory.
+fn keep_frames(journal: &[Event], items: &[HistoryItem], skip: usize, frames: &mut FrameLog)
+    requires said { All (IsIn journal.now) items.now }
+    requires made { AreWritten frames.old (map (entry_in journal.now) items.now) }
+    ensures { (are : AreWritten frames.old (map (entry_in journal.now) items.now))
+        → AreFramesOf frames.new (going_over (drop skip are.written)) }
+{
+    let first = skip.min(frames.len());
+    let mut moved = frames.skip(first);
+    for at in first..frames.len() {
+        moved = frames.pass(at, is_kept(journal, &items[at]), moved);
+    }
+    frames.cut(moved);
+}
+
+impl HistoryFrames {
+    /// No frame.
+    pub fn new(alloc: Global) -> HistoryFrames
+        ensures { (history : List Piece) → AreMadeOf result history }
+    {
+        HistoryFrames {
+            front: FrameLog::new(alloc),
+            base: 0,
+            rest: FrameLog::new(alloc),
+        }
+    }
+
+    /// How many frames were made one after another from a place on.
+    pub fn made_at(&self, at: usize) -> usize
+        ensures { result ≡ made_at self.now at }
+    {
+        if at < self.base {
+            self.front.len().saturating_sub(at)
+        } else {
+            self.rest.len().saturating_sub(at - self.base)
+        }
+    }
+
+    /// Adds the frames from a place on at the end of the bytes, at most this many, and no more than
+    /// 65,536 bytes of them unless it is one. It answers how many.
+    ///
+    /// # Errors
+    ///
+    /// Memory ran out: the bytes are as they were.
+    pub fn put(&self, at: usize, most: usize, out: &mut Vec<u8>) -> Result<usize, AllocError>
+        requires made { (history : List Piece) × AreMadeOf self.now history }
+        requires some { 0 < most }
+        requires most { most ≤ made_at self.now at }
+        ensures some { IfOk result (λ count. 0 < count) }
+        ensures most { IfOk result (λ count. count ≤ most) }
+        ensures put { IfOk result (λ count. (history : List Piece) → AreMadeOf self.now history
+            → out.new.items ≡ out.old.items ++ frames_of (take count (drop at history))) }
+        ensures short { IfOk result (λ count. IsShort count out.old.items out.new.items) }
+        ensures err { OnErr result (out.new.items ≡ out.old.items) }
+    {
+        if at < self.base {
+            self.front.put(at, most, out)
+        } else {
+            self.rest.put(at - self.base, most, out)
+        }
+    }
+
+    /// Makes the frames of the entries that have none yet, as far as memory goes.
+    pub fn write(&mut self, alloc: Global, journal: &[Event], live: &[HistoryItem])
+        requires { All (IsIn journal.now) live.now }
+        ensures { AreMadeOf self.old (map (entry_in journal.now) live.now)
+            → AreMadeOf self.new (map (entry_in journal.now) live.now) }
+    {
+        write_all(alloc, journal, prefix_of(live, self.base), &mut self.front);
+        write_all(alloc, journal, rest_of(live, self.base), &mut self.rest);
+    }
+
+    /// Keeps the frames of those entries from a place on that go over into an epoch, which opens
+    /// with so many entries, these last. It takes no memory.
+    pub fn keep(&mut self, journal: &[Event], live: &[HistoryItem], at: usize, opens_with: usize)
+        requires said { All (IsIn journal.now) live.now }
+        requires made { AreMadeOf self.old (map (entry_in journal.now) live.now) }
+        ensures kept { (are : AreMadeOf self.old (map (entry_in journal.now) live.now))
+            → AreKept self.old at are.rest.written self.new }
+        ensures made { (before : List Piece)
+            → opens_with ≡ length (before
+            ++ going_over (drop at (map (entry_in journal.now) live.now)))
+            → AreMadeOf self.new (before
+            ++ going_over (drop at (map (entry_in journal.now) live.now))) }
+    {
+        let items = rest_of(live, self.base);
+        let skip = at.saturating_sub(self.base);
+        let count = count_kept(journal, rest_of(items, skip));
+        keep_frames(journal, items, skip, &mut self.rest);
+        self.front = FrameLog::new(self.rest.allocator());
+        self.base = opens_with.saturating_sub(count);
+    }
+}
