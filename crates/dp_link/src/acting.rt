@@ -40,21 +40,3 @@ pub(crate) fn act_once<W: Wait, K: Keeper, G: Gate>(
     worker.gate.pass(worker.who, n);
     outcome
 }
-
-/// The same, but it wakes nobody.
-pub(crate) fn act_silently<W: Wait, K: Keeper, G: Gate>(
-    worker: &Worker<'_, W, K, G>,
-    seat: &mut Seat<Session<K>>,
-    event: &Event,
-    n: u64,
-) -> Result<Reply, AllocError>
-    requires { IsOf worker.now.hall.now seat.old }
-    ensures of { IsOf worker.now.hall.now seat.new }
-    ensures acts { ActsOnce seat.old.view event.now result seat.new.view }
-    ensures step { (old new : Past) × Step old event.now result new }
-{
-    calls_add_up::<Event, Result<Reply, AllocError>, Session<K>>();
-    let outcome = worker.hall.act_silently(worker.rt, seat, event);
-    worker.gate.pass(worker.who, n);
-    outcome
-}

@@ -1,4 +1,4 @@
-use Rattle.std.proofs.Common.{◌≡◌, ◌-◌, IsTrue}
+use Rattle.std.proofs.Common.{◌≡◌, ◌-◌}
 use Rattle.dp_hall.specs.Calls.{IsOf}
 use Rattle.dp_entries.specs.Reader.{HoldsWithin}
 use Rattle.dp_io.specs.Limits.{stream_limit}
@@ -13,7 +13,6 @@ invariant-messages g l = record {
       SaidSoFar l.fn.seat.view l.seat.view (g.R.Source.left l.fn.rx) (g.R.Source.left l.rx)
       l.fn.split l.link l.speaker.conn;
   conn : l.speaker.conn ≡ l.fn.speaker.conn;
-  going : ¬ IsTrue l.link.ended;
   within : HoldsWithin l.link;
   limit : l.link.limit ≡ stream_limit;
   kept : g.R.Source.faults l.rx ≡ g.R.Source.faults l.fn.rx;
