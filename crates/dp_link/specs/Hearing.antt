@@ -90,7 +90,7 @@ HeardBy (Err end) left unread start entries conn says link =
 
 -- ---- what is said of it
 
--- A seat acted Says in one turn: all of them, or up to one that isn't kept. Its outcome is the stop.
+-- A seat acted Says in one turn: all of them, or up to one that isn't kept, with this outcome.
 pub record ActsSays (v : SeatView) (says : List Event) (stop : Option ReplyOrMemory) (w : SeatView)
     : Type 0 where
   pub acts : List LogEntry
