@@ -1,8 +1,7 @@
 -- Messages that are said, and the bytes that spell them.
-use Rattle.std.proofs.Common.{◌≡◌, ℕ, ◌+◌, Bool, true}
-use Rattle.std.proofs.Common.{List, [], ◌∷◌, ◌++◌, Option, Result, Ok, Err, refl, sym, ap, subst}
-use Rattle.std.proofs.Common.{◌∙◌, inl, inr, append_assoc}
-use Rattle.std.specs.Prelude.{IsErr}
+use Rattle.std.proofs.Common.{◌≡◌, ℕ, ◌+◌}
+use Rattle.std.proofs.Common.{List, [], ◌∷◌, ◌++◌, Option, refl, sym, ap, subst}
+use Rattle.std.proofs.Common.{◌∙◌, inl, append_assoc}
 use Rattle.std.specs.List.{flat_map}
 use Rattle.std.specs.Io.KnownBytes.{IsAtEnd}
 use Rattle.dp_frame.specs.Frames.{FrameParts, spelling}
@@ -12,7 +11,6 @@ use Rattle.dp_messages.specs.declared.decoder.DecodeError.{DecodeError}
 use Rattle.dp_messages.specs.declared.message.Msg.{Msg}
 use Rattle.dp_messages.specs.declared.message.Entry.{Entry}
 use Rattle.dp_messages.specs.Decoded.{Carries, IsPayloadRefused}
-use Rattle.dp_messages.specs.Properties.{is_disconnect}
 use Rattle.dp_entries.specs.Anywhere.{IsCauseAnywhere, StandsAnywhere}
 use Rattle.dp_entries.specs.declared.ends.ReadEnd.{ReadEnd}
 use Rattle.dp_entries.specs.declared.ends.ReadEnd.TheVariants as read
@@ -20,7 +18,7 @@ use Rattle.dp_entries.specs.Input.{StandFor}
 use Rattle.dp_entries.specs.Onward.{BeginsBad, EndsOn, ReadOn, ReadOnTo, HaltsOn, counted_from}
 use Rattle.dp_entries.specs.Reader.{Reader}
 use Rattle.dp_entries.specs.Reading.{EndsWithInput, FaultMatchesReadEnd}
-use Rattle.dp_epochs.specs.declared.event.Event.TheVariants.{Say, Close}
+use Rattle.dp_epochs.specs.declared.event.Event.TheVariants.{Close}
 use Rattle.dp_link.specs.declared.ends.UpEnd.{UpEnd}
 use Rattle.dp_link.specs.declared.ends.UpEnd.TheVariants as up
 use Rattle.dp_link.specs.Acts.{SeatView, ActsOnce}
@@ -28,10 +26,9 @@ use Rattle.dp_session_laws.specs.Logs.{ReplyOrMemory, LogEntry}
 use Rattle.dp_link.specs.Bytes.{BeginsWithNoMessage}
 use Rattle.dp_io.specs.Limits.{stream_limit}
 use Rattle.dp_link.specs.Reading.{up_end_of}
-use Rattle.dp_link.specs.Saying.{MayGoOn, stops, AreSaid, AreSaidTo, SaidBy, AreSpelled}
-use Rattle.dp_link.specs.Saying.{SpellFirst, counted, RestBy, messages_of, FaultMatchesSay}
-use Rattle.dp_link.specs.Saying.{FaultMatchesUp, EndsBy, SaysOne, SaidSoFar, SaidToEnd, SaysAll}
-use Rattle.dp_link.specs.Saying.{SaysNext}
+use Rattle.dp_link.specs.Saying.{AreSaid, AreSaidTo, SaidBy, AreSpelled}
+use Rattle.dp_link.specs.Saying.{SpellFirst, counted, RestBy, messages_of}
+use Rattle.dp_link.specs.Saying.{FaultMatchesUp, SaidSoFar, SaidToEnd, SaysAll}
 
 -- ---- frames
 
@@ -44,7 +41,7 @@ spelled-of n (f ∷ frames) [] p = absurd p
 spelled-of n (f ∷ frames) (e ∷ entries) p =
     (p.0.spelled, spelled-of (n + 1) frames entries p.1)
 
-spelled-to : {P : List ℕ → List ℕ → Type 0} {left unread : Option (List ℕ)} {start : Stream}
+pub spelled-to : {P : List ℕ → List ℕ → Type 0} {left unread : Option (List ℕ)} {start : Stream}
     {entries : List Entry}
     → (h : ReadOnTo P StandsAnywhere stream_limit left unread start entries)
     → SpellFirst (counted start h.read) (messages_of entries) h.rest

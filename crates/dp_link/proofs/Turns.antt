@@ -463,7 +463,7 @@ module _ (u v w : SeatView) (left unread : Option (List ℕ)) (start : Stream) (
         heard = first.1;
         goes = both p.says a.acts p.goes a.goes;
         said = inr (said (λ m came. IsErr came)
-            (subst (λ (came : ReplyOrMemory). IsErr came) (sym is) tt));
+            (subst (λ (came : ReplyOrMemory). IsErr came) (sym is) refl));
         rests = tt;
       }
 

@@ -254,7 +254,7 @@ fn hear_one(
         (left unread : Option (List ℕ)) (start : Stream) (entries : List Item)
         → ReadOn StandsAnywhere left unread start entries link.old
         → HeardEnd left unread start (messages_of entries) end) }
-    ensures same { OnErr result (says.new ≡ says.old) }
+    ensures same { OnErr result (says.new.items ≡ says.old.items) }
     ensures ends { IfErr result EndsHearing }
     ensures further { OnOk result (link.old.stream.at < link.new.stream.at) }
     ensures within { HoldsWithin link.new }
@@ -275,7 +275,7 @@ fn note(entry: Entry, conn: u32, says: &mut Vec<Event>) -> Result<bool, AllocErr
     ensures said { OnOk result
         (says.new.items ≡ says.old.items ++ Event.Say conn entry.msg ∷ []) }
     ensures leaves { IfOk result (λ leaves. leaves ≡ is_disconnect entry.msg) }
-    ensures err { OnErr result (says.new ≡ says.old) }
+    ensures err { OnErr result (says.new.items ≡ says.old.items) }
 {
     let Entry { msg, user: _ } = entry;
     let leaves = msg.is_disconnect();

@@ -2,16 +2,16 @@ use Rattle.std.proofs.Common.{◌∙◌, sym}
 use Rattle.dp_link.proofs.Turns.{heard-unnoted, heard-refused, refused-ends}
 use Rattle.dp_link.proofs.up.hear_one.Goals as goal
 
-pub returns-in-Ok-in-Ok-clause-more : goal.returns-in-Ok-in-Ok-clause-more
-returns-in-Ok-in-Ok-clause-more c = λ left unread start entries given. record {
+pub returns-in-Ok-note-clause-more : goal.returns-in-Ok-note-clause-more
+returns-in-Ok-note-clause-more c = λ left unread start entries given. record {
   entry = c.in-Ok.entry;
   given = c.in-Ok.ensures.goes_on left unread start entries given;
-  says_are = c.in-Ok-in-Ok.ensures.said;
-  leaves_is = sym c.in-Ok-in-Ok.ensures.leaves;
+  says_are = c.in-Ok-note.ensures.said;
+  leaves_is = sym c.in-Ok-note.ensures.leaves;
 }
 
-pub returns-in-Ok-in-Err-clause-ended : goal.returns-in-Ok-in-Err-clause-ended
-returns-in-Ok-in-Err-clause-ended c = λ left unread start entries given.
+pub returns-in-Err-note-clause-ended : goal.returns-in-Err-note-clause-ended
+returns-in-Err-note-clause-ended c = λ left unread start entries given.
     heard-unnoted left unread start entries c.in-Ok.entry c.take.new.self
     (c.take.ensures.source.limit ∙ c.requires.limit)
     (c.in-Ok.ensures.goes_on left unread start entries given)
