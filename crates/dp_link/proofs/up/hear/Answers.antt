@@ -22,28 +22,30 @@ messages-preserved c =
       at = omega (arith, was.at, c.in-Ok-false.ensures.further);
       hears = λ left unread start entries given.
           let q = was.hears left unread start entries given in
-          let more = rw c.in-Ok-false.field-0-is at c.in-Ok-false.ensures.more in
-          heard-one left unread start entries c.args.conn c.messages.says.items
-          c.hear_one.new.says.items false c.messages.link c.hear_one.new.link q
-          (more left unread start _ q.given);
+          subst (λ leaves. HeardMore left unread start entries c.args.conn
+          c.hear_one.new.says.items leaves c.hear_one.new.link) c.in-Ok-false.field-0-test
+          (heard-one left unread start entries c.args.conn c.messages.says.items
+          c.hear_one.new.says.items _ c.messages.link c.hear_one.new.link q
+          (c.in-Ok-false.ensures.more left unread start _ q.given));
     }
 
 pub returns-in-Ok-true-clause-more : goal.returns-in-Ok-true-clause-more
 returns-in-Ok-true-clause-more c = λ left unread start entries given.
     let q = c.messages.invariant.hears left unread start entries given in
-    let more = rw c.in-Ok-true.field-0-is at c.in-Ok-true.ensures.more in
-    heard-one left unread start entries c.args.conn c.messages.says.items
+    subst (λ leaves. HeardMore left unread start entries c.args.conn
+    c.hear_one.new.says.items leaves c.hear_one.new.link) c.in-Ok-true.field-0-test
+    (heard-one left unread start entries c.args.conn c.messages.says.items
     c.hear_one.new.says.items _ c.messages.link c.hear_one.new.link q
-    (more left unread start _ q.given)
+    (c.in-Ok-true.ensures.more left unread start _ q.given))
 
-pub returns-then-not-holds_frame-clause-more :
-    goal.returns-then-not-holds_frame-clause-more
+pub returns-then-not-holds_frame-clause-more : goal.returns-then-not-holds_frame-clause-more
 returns-then-not-holds_frame-clause-more c = λ left unread start entries given.
     let q = c.messages.invariant.hears left unread start entries given in
-    let more = rw c.in-Ok-false.field-0-is at c.in-Ok-false.ensures.more in
-    heard-one left unread start entries c.args.conn c.messages.says.items
+    subst (λ leaves. HeardMore left unread start entries c.args.conn
+    c.hear_one.new.says.items leaves c.hear_one.new.link) c.in-Ok-false.field-0-test
+    (heard-one left unread start entries c.args.conn c.messages.says.items
     c.hear_one.new.says.items _ c.messages.link c.hear_one.new.link q
-    (more left unread start _ q.given)
+    (c.in-Ok-false.ensures.more left unread start _ q.given))
 
 pub returns-in-Err-clause-ended : goal.returns-in-Err-clause-ended
 returns-in-Err-clause-ended c = λ left unread start entries given.

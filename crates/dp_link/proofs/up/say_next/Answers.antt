@@ -1,4 +1,5 @@
-use Rattle.std.proofs.Common.{sym, subst, true≢false}
+use Rattle.std.proofs.Common.{sym, subst, ◌∙◌}
+use Rattle.std.proofs.Common.{false≢true}
 use Rattle.dp_link.specs.Saying.{FaultMatchesSay}
 use Rattle.dp_link.proofs.Hearing.{so-far-filled, so-far-end, so-far-stops}
 use Rattle.dp_link.proofs.Hearing.{up-ends, up-faults}
@@ -25,8 +26,8 @@ pub returns-in-Ok-false-clause-says : goal.returns-in-Ok-false-clause-says
 returns-in-Ok-false-clause-says g c = λ v left start p.
     so-far-end v c.args.seat.now.view left (g.R.Source.left c.args.rx.now)
     (g.R.Source.left c.fill.new.input) start c.args.link.now c.args.speaker.now.conn p
-    (c.in-Ok-false.ensures.goes_to_end (λ more. true≢false (sym more)) left start p.entries
-    p.given)
+    (c.in-Ok-false.ensures.goes_to_end
+    (λ more. false≢true (sym c.in-Ok-false.field-0-test ∙ more)) left start p.entries p.given)
 
 pub returns-in-Err-clause-says : goal.returns-in-Err-clause-says
 returns-in-Err-clause-says g c = λ v left start p.
