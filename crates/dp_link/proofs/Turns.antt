@@ -317,7 +317,8 @@ stop-at conn name leaves (m ∷ n ∷ ms) (e ∷ events) event later (a ∷ acts
       earlier = m ∷ t.earlier;
       last = t.last;
       later = t.later;
-      messages_are = ap (λ l. m ∷ l) t.messages_are;
+      messages_are =
+          ap (λ l. m ∷ l) {y = (t.earlier ++ t.last ∷ []) ++ t.later} t.messages_are;
       said = (said-one conn name m e a (sym heads) h.0 h.1 last.0, t.said);
       event_is = t.event_is;
     }

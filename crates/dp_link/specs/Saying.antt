@@ -187,7 +187,7 @@ pub record SaidToEnd (v w : SeatView) (left unread : Option (List ℕ)) (stream 
   pub said : SaidBy end conn messages says
   pub rests : RestBy end stream read rest
 
--- by what came of the next message: it was said, and all went on; or the link ended so
+-- by what came of the next messages: they were said, and all went on; or the link ended so
 abbrev pub SaysNext : Result Unit UpEnd → SeatView → SeatView → Option (List ℕ) → Option (List ℕ)
     → Stream → Reader → ℕ → Type 0
 SaysNext (Ok done) v w left unread start link conn = SaidSoFar v w left unread start link conn

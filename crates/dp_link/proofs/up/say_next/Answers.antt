@@ -1,5 +1,5 @@
 use Rattle.std.proofs.Common.{sym, subst, ◌∙◌}
-use Rattle.std.proofs.Common.{false≢true}
+use Rattle.std.proofs.lemmas.Bool.{false≢true}
 use Rattle.dp_link.specs.Saying.{FaultMatchesSay}
 use Rattle.dp_link.proofs.Hearing.{so-far-filled, so-far-end, so-far-stops}
 use Rattle.dp_link.proofs.Hearing.{up-ends, up-faults}
