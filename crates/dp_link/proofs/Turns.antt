@@ -1,15 +1,14 @@
 -- Messages that are heard, and said in one turn.
-use Rattle.std.proofs.Common.{◌≡◌, ◌≢◌, ℕ, ◌+◌, Bool, true, false, List, [], ◌∷◌, ◌++◌, Option, None}
+use Rattle.std.proofs.Common.{◌≡◌, ◌≢◌, ℕ, Bool, true, false, List, [], ◌∷◌, ◌++◌, Option, None}
 use Rattle.std.proofs.Common.{Some, Result, Ok, Err, refl, sym, ap, subst, ◌∙◌, inl, inr}
 use Rattle.std.proofs.Common.{append_assoc, append-nil, true≢false}
 use Rattle.std.specs.Prelude.{IsErr, IfOk, IfErr}
 use Rattle.std.specs.Io.KnownBytes.{Consumes}
 use Rattle.std.specs.List.{AllByRecursion, flat_map}
 use Rattle.std.proofs.lemmas.List.Concat.{flat_map-append}
-use Rattle.std.specs.declared.alloc.AllocError.{AllocError}
 use Rattle.dp_frame.specs.Frames.{FrameParts, IsFrame, spelling}
 use Rattle.dp_split.specs.Stream.{Stream}
-use Rattle.dp_hall.specs.Calls.{IsActOf, AreActs, AreActsTo, ActsEach}
+use Rattle.dp_hall.specs.Calls.{IsActOf, AreActs, ActsEach}
 use Rattle.dp_hall.specs.Laws.{Continues}
 use Rattle.dp_hall.specs.declared.listener.Acted.{Acted}
 use Rattle.dp_messages.specs.declared.decoder.DecodeError.{DecodeError}
