@@ -1,8 +1,7 @@
 -- Messages that are said, and the bytes that spell them.
-use Rattle.std.proofs.Common.{◌≡◌, ℕ, ◌+◌, Bool, true}
-use Rattle.std.proofs.Common.{List, [], ◌∷◌, ◌++◌, Option, Result, Ok, Err, refl, sym, ap, subst}
-use Rattle.std.proofs.Common.{◌∙◌, inl, inr, append_assoc}
-use Rattle.std.specs.Prelude.{IsErr}
+use Rattle.std.proofs.Common.{◌≡◌, ℕ, ◌+◌}
+use Rattle.std.proofs.Common.{List, [], ◌∷◌, ◌++◌, Option, refl, sym, ap, subst}
+use Rattle.std.proofs.Common.{◌∙◌, inl, append_assoc}
 use Rattle.std.specs.List.{flat_map}
 use Rattle.std.specs.Io.KnownBytes.{IsAtEnd}
 use Rattle.dp_frame.specs.Frames.{FrameParts, spelling}
@@ -12,7 +11,6 @@ use Rattle.dp_messages.specs.declared.decoder.DecodeError.{DecodeError}
 use Rattle.dp_messages.specs.declared.message.Msg.{Msg}
 use Rattle.dp_messages.specs.declared.message.Entry.{Entry}
 use Rattle.dp_messages.specs.Decoded.{Carries, IsPayloadRefused}
-use Rattle.dp_messages.specs.Properties.{is_disconnect}
 use Rattle.dp_entries.specs.Anywhere.{IsCauseAnywhere, StandsAnywhere}
 use Rattle.dp_entries.specs.declared.ends.ReadEnd.{ReadEnd}
 use Rattle.dp_entries.specs.declared.ends.ReadEnd.TheVariants as read
@@ -20,7 +18,7 @@ use Rattle.dp_entries.specs.Input.{StandFor}
 use Rattle.dp_entries.specs.Onward.{BeginsBad, EndsOn, ReadOn, ReadOnTo, HaltsOn, counted_from}
 use Rattle.dp_entries.specs.Reader.{Reader}
 use Rattle.dp_entries.specs.Reading.{EndsWithInput, FaultMatchesReadEnd}
-use Rattle.dp_epochs.specs.declared.event.Event.TheVariants.{Say, Close}
+use Rattle.dp_epochs.specs.declared.event.Event.TheVariants.{Close}
 use Rattle.dp_link.specs.declared.ends.UpEnd.{UpEnd}
 use Rattle.dp_link.specs.declared.ends.UpEnd.TheVariants as up
 use Rattle.dp_link.specs.Acts.{SeatView, ActsOnce}
@@ -28,10 +26,9 @@ use Rattle.dp_session_laws.specs.Logs.{ReplyOrMemory, LogEntry}
 use Rattle.dp_link.specs.Bytes.{BeginsWithNoMessage}
 use Rattle.dp_io.specs.Limits.{stream_limit}
 use Rattle.dp_link.specs.Reading.{up_end_of}
-use Rattle.dp_link.specs.Saying.{MayGoOn, stops, AreSaid, AreSaidTo, SaidBy, AreSpelled}
-use Rattle.dp_link.specs.Saying.{SpellFirst, counted, RestBy, messages_of, FaultMatchesSay}
-use Rattle.dp_link.specs.Saying.{FaultMatchesUp, EndsBy, SaysOne, SaidSoFar, SaidToEnd, SaysAll}
-use Rattle.dp_link.specs.Saying.{SaysNext}
+use Rattle.dp_link.specs.Saying.{AreSaid, AreSaidTo, SaidBy, AreSpelled}
+use Rattle.dp_link.specs.Saying.{SpellFirst, counted, RestBy, messages_of}
+use Rattle.dp_link.specs.Saying.{FaultMatchesUp, SaidSoFar, SaidToEnd, SaysAll}
 
 -- ---- frames
 
@@ -44,7 +41,7 @@ spelled-of n (f ∷ frames) [] p = absurd p
 spelled-of n (f ∷ frames) (e ∷ entries) p =
     (p.0.spelled, spelled-of (n + 1) frames entries p.1)
 
-spelled-to : {P : List ℕ → List ℕ → Type 0} {left unread : Option (List ℕ)} {start : Stream}
+pub spelled-to : {P : List ℕ → List ℕ → Type 0} {left unread : Option (List ℕ)} {start : Stream}
     {entries : List Entry}
     → (h : ReadOnTo P StandsAnywhere stream_limit left unread start entries)
     → SpellFirst (counted start h.read) (messages_of entries) h.rest
@@ -55,7 +52,7 @@ spelled-to {entries = entries} h = record {
   whole = h.whole;
 }
 
-spelled-so-far : {left unread : Option (List ℕ)} {start : Stream} {entries : List Entry}
+pub spelled-so-far : {left unread : Option (List ℕ)} {start : Stream} {entries : List Entry}
     {link : Reader} → link.limit ≡ stream_limit
     → (h : ReadOn StandsAnywhere left unread start entries link)
     → SpellFirst (counted start h.read) (messages_of entries) link.stream.held
@@ -68,10 +65,11 @@ spelled-so-far {start = start} {entries = entries} {link = link} limit h = recor
       ≡ flat_map spelling h.follows.frames ++ link.stream.held) limit h.follows.whole;
 }
 
-messages-more : (entries : List Entry) (e : Entry)
-    → messages_of (entries ++ e ∷ []) ≡ messages_of entries ++ e.msg ∷ []
-messages-more [] e = refl
-messages-more (first ∷ entries) e = ap (λ ms. first.msg ∷ ms) (messages-more entries e)
+pub messages-append : (entries more : List Entry)
+    → messages_of (entries ++ more) ≡ messages_of entries ++ messages_of more
+messages-append [] more = refl
+messages-append (first ∷ entries) more =
+    ap (λ ms. first.msg ∷ ms) (messages-append entries more)
 
 -- the frame carries nothing if it is refused
 pub no-message : (n : ℕ) (rest : List ℕ) (cause : DecodeError)
@@ -89,14 +87,14 @@ no-message n rest cause either h = (
 
 -- ---- Says
 
-said-then : (conn : ℕ) (ms ns : List Msg) (xs ys : List LogEntry) → AreSaid conn ms xs
+pub said-then : (conn : ℕ) (ms ns : List Msg) (xs ys : List LogEntry) → AreSaid conn ms xs
     → AreSaid conn ns ys → AreSaid conn (ms ++ ns) (xs ++ ys)
 said-then conn [] ns [] ys p q = q
 said-then conn [] ns (x ∷ xs) ys p q = absurd p
 said-then conn (m ∷ ms) ns [] ys p q = absurd p
 said-then conn (m ∷ ms) ns (x ∷ xs) ys p q = (p.0, said-then conn ms ns xs ys p.1 q)
 
-said-to-then : (P : Msg → ReplyOrMemory → Type 0) (conn : ℕ) (ms ns : List Msg)
+pub said-to-then : (P : Msg → ReplyOrMemory → Type 0) (conn : ℕ) (ms ns : List Msg)
     (xs ys : List LogEntry)
     → AreSaid conn ms xs → AreSaidTo P conn ns ys → AreSaidTo P conn (ms ++ ns) (xs ++ ys)
 said-to-then P conn ms ns xs ys p q = record {
@@ -112,121 +110,26 @@ said-to-then P conn ms ns xs ys p q = record {
   meets = q.meets;
 }
 
--- ---- one message
-
--- the one Say is the last one
-said-last : (P : Msg → ReplyOrMemory → Type 0) (conn : ℕ) (m : Msg) (act : LogEntry)
-    → act.event ≡ Say conn m → P m act.outcome → AreSaidTo P conn (m ∷ []) (act ∷ [])
-said-last P conn m act is meets = record {
-  earlier = [];
-  before = [];
-  last = m;
-  act = act;
-  messages_are = refl;
-  acts_are = refl;
-  said = tt;
-  event_is = is;
-  meets = meets;
-}
-
--- how the Say of a message ends a link
-said-end : (conn : ℕ) (ms : List Msg) (m : Msg) (xs : List LogEntry) (act : LogEntry)
-    (outcome : ReplyOrMemory) (start : Stream) (given rest : List ℕ) (end : UpEnd)
-    → AreSaid conn ms xs → act.event ≡ Say conn m → act.outcome ≡ outcome
-    → EndsBy (Err end) outcome (is_disconnect m)
-    → SaidBy end conn (ms ++ m ∷ []) (xs ++ act ∷ []) × RestBy end start given rest
-said-end conn ms m xs act outcome start given rest up.Left said event is ends = (
-  said-to-then (λ m outcome. (is_disconnect m ≡ true) × MayGoOn outcome) conn ms (m ∷ []) xs
-      (act ∷ []) said
-      (said-last (λ m outcome. (is_disconnect m ≡ true) × MayGoOn outcome) conn m act event
-      (ends.1, subst MayGoOn (sym is) ends.0)),
-  tt,
-)
-said-end conn ms m xs act outcome start given rest (up.Refused answer) said event is ends = (
-  said-to-then (λ m outcome. (outcome ≡ Ok answer) × (stops answer ≡ true)) conn ms (m ∷ []) xs
-      (act ∷ []) said
-      (said-last (λ m outcome. (outcome ≡ Ok answer) × (stops answer ≡ true)) conn m act event
-      (is ∙ ends.0, ends.1)),
-  tt,
-)
-said-end conn ms m xs act outcome start given rest up.Memory said event is ends = (
-  inr (said-to-then (λ m outcome. IsErr outcome) conn ms (m ∷ []) xs (act ∷ []) said
-      (said-last (λ m outcome. IsErr outcome) conn m act event
-      (subst (λ (o : ReplyOrMemory). IsErr o) (sym is) ends))),
-  tt,
-)
-said-end conn ms m xs act outcome start given rest up.End said event is ends = absurd ends
-said-end conn ms m xs act outcome start given rest up.ReadFault said event is ends = absurd ends
-said-end conn ms m xs act outcome start given rest (up.BadMessage at) said event is ends =
-    absurd ends
-said-end conn ms m xs act outcome start given rest up.Long said event is ends = absurd ends
-said-end conn ms m xs act outcome start given rest (up.NotGreeted end) said event is ends =
-    absurd ends
-
 -- ---- the whole link
 
 -- calls of one seat add up, from these three views on
-abbrev AddUp : SeatView → SeatView → SeatView → Type 0
+abbrev pub AddUp : SeatView → SeatView → SeatView → Type 0
 AddUp u v w =
     (xs ys : List LogEntry) → Continues u xs v → Continues v ys w → Continues u (xs ++ ys) w
 
-module _ (u v w : SeatView) (left unread more : Option (List ℕ)) (start : Stream) (old : Reader)
+module _ (u v : SeatView) (left unread more : Option (List ℕ)) (start : Stream) (old : Reader)
     (conn : ℕ) (p : SaidSoFar u v left unread start old conn) where
-  -- one more message was said
-  so-far-more : (new : Reader) (e : Entry) (done : Unit {0}) → AddUp u v w
-      → new.limit ≡ old.limit
-      → ReadOn StandsAnywhere left more start (p.entries ++ e ∷ []) new
-      → SaysOne v w conn e.msg (Ok done) → SaidSoFar u w left more start new conn
-  so-far-more new e done both limit given q =
-      let act = q.acts.act in
-      let one : AreSaid conn (e.msg ∷ []) (act ∷ []) = (
-        record {
-          event_is = q.acts.is.event_is;
-          may_go_on = subst MayGoOn (sym q.acts.is.outcome_is) q.ends.0;
-          stays = q.ends.1;
-        },
-        tt,
-      ) in
-      record {
-        entries = p.entries ++ e ∷ [];
-        says = p.says ++ act ∷ [];
-        given = given;
-        limit = limit ∙ p.limit;
-        goes = both p.says (act ∷ []) p.goes q.acts.goes;
-        said =
-            subst (λ (ms : List Msg). AreSaid conn ms (p.says ++ act ∷ []))
-            (sym (messages-more p.entries e))
-            (said-then conn (messages_of p.entries) (e.msg ∷ []) p.says (act ∷ []) p.said one);
-      }
-
-  -- and it ended the link
-  so-far-last : (new : Reader) (e : Entry) (end : UpEnd) → AddUp u v w
-      → new.limit ≡ old.limit → ReadOn StandsAnywhere left more start (p.entries ++ e ∷ []) new
-      → SaysOne v w conn e.msg (Err end) → SaidToEnd u w left more start conn end
-  so-far-last new e end both limit given q =
-      let act = q.acts.act in
-      let ends = said-end conn (messages_of p.entries) e.msg p.says act q.outcome start given.read
-      new.stream.held end p.said q.acts.is.event_is q.acts.is.outcome_is q.ends in
-      record {
-        read = given.read;
-        messages = messages_of p.entries ++ e.msg ∷ [];
-        rest = new.stream.held;
-        says = p.says ++ act ∷ [];
-        read_is = given.read_is;
-        heard =
-            subst (λ (ms : List Msg). SpellFirst (counted start given.read) ms new.stream.held)
-            (messages-more p.entries e) (spelled-so-far (limit ∙ p.limit) given);
-        goes = both p.says (act ∷ []) p.goes q.acts.goes;
-        said = ends.0;
-        rests = ends.1;
-      }
-
-  pub so-far-said : (new : Reader) (e : Entry) (result : Result Unit UpEnd) → AddUp u v w
-      → new.limit ≡ old.limit
-      → ReadOn StandsAnywhere left more start (p.entries ++ e ∷ []) new
-      → SaysOne v w conn e.msg result → SaysNext result u w left more start new conn
-  so-far-said new e (Ok done) both limit given q = so-far-more new e done both limit given q
-  so-far-said new e (Err end) both limit given q = so-far-last new e end both limit given q
+  -- more was read
+  pub so-far-filled : (new : Reader) → new.limit ≡ old.limit
+      → ReadOn StandsAnywhere left more start p.entries new → SaidSoFar u v left more start new conn
+  so-far-filled new limit given = record {
+    entries = p.entries;
+    says = p.says;
+    given = given;
+    limit = limit ∙ p.limit;
+    goes = p.goes;
+    said = p.said;
+  }
 
   to-end : {P : List ℕ → List ℕ → Type 0} (end : UpEnd)
       → (h : ReadOnTo P StandsAnywhere stream_limit left more start p.entries)
@@ -318,22 +221,3 @@ up-ends (read.Truncated n) unread h e = h
 up-ends (read.BadMessage cause n) unread h e = cc (e)
 up-ends read.Long unread h e = cc (e)
 up-ends read.Memory unread h e = cc (e)
-
-pub say-faults : (result : Result Unit UpEnd) (outcome : ReplyOrMemory) (leaves : Bool)
-    (before now : ℕ) → EndsBy result outcome leaves → now ≡ before
-    → FaultMatchesSay result before now
-say-faults (Ok done) outcome leaves before now ends kept = kept
-say-faults (Err up.Left) outcome leaves before now ends kept = kept
-say-faults (Err (up.Refused answer)) outcome leaves before now ends kept = kept
-say-faults (Err up.Memory) outcome leaves before now ends kept = kept
-say-faults (Err up.End) outcome leaves before now ends kept = absurd ends
-say-faults (Err up.ReadFault) outcome leaves before now ends kept = absurd ends
-say-faults (Err (up.BadMessage at)) outcome leaves before now ends kept = absurd ends
-say-faults (Err up.Long) outcome leaves before now ends kept = absurd ends
-say-faults (Err (up.NotGreeted end)) outcome leaves before now ends kept = absurd ends
-
--- a message that was said is no end of the source
-pub no-end : (result : Result Unit UpEnd) (outcome : ReplyOrMemory) (leaves : Bool)
-    → EndsBy result outcome leaves → ¬ (result ≡ Err up.End)
-no-end result outcome leaves ends is =
-    subst (λ (r : Result Unit UpEnd). EndsBy r outcome leaves) is ends

@@ -4,3 +4,4 @@ pub mod PageLemmas
 pub mod SeenLemmas
 pub mod SendLemmas
 pub mod Steps
+pub mod Turns

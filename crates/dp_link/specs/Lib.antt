@@ -4,4 +4,5 @@ pub mod Bytes
 pub mod Hello
 pub mod Reading
 pub mod Saying
+pub mod Hearing
 pub mod Sending

@@ -15,7 +15,7 @@ use Rattle.dp_epochs.specs.declared.event.Reply.{Reply}
 use Rattle.dp_epochs.specs.declared.event.Reply.TheVariants as reply
 use Rattle.dp_link.specs.declared.ends.UpEnd.{UpEnd}
 use Rattle.dp_link.specs.declared.ends.UpEnd.TheVariants as up
-use Rattle.dp_link.specs.Acts.{SeatView, IsAct, ActsOnce}
+use Rattle.dp_link.specs.Acts.{SeatView, IsAct}
 use Rattle.dp_session_laws.specs.Logs.{ReplyOrMemory, LogEntry}
 use Rattle.dp_link.specs.Bytes.{BeginsWithNoMessage}
 use Rattle.dp_messages.specs.declared.message.Entry.{Entry}
@@ -158,21 +158,6 @@ FaultMatchesUp up.Memory before now = now ≡ before
 
 -- ---- parts of it
 
--- how a Say of which that came ends a link, by whether it was a Disconnect
-abbrev pub EndsBy : Result Unit UpEnd → ReplyOrMemory → Bool → Type 0
-EndsBy (Ok done) outcome leaves = MayGoOn outcome × (leaves ≡ false)
-EndsBy (Err up.Left) outcome leaves = MayGoOn outcome × (leaves ≡ true)
-EndsBy (Err (up.Refused answer)) outcome leaves = (outcome ≡ Ok answer) × (stops answer ≡ true)
-EndsBy (Err up.Memory) outcome leaves = IsErr outcome
-EndsBy (Err other) outcome leaves = ⊥
-
--- a message was said, and that is how it ends the link, if it does
-pub record SaysOne (v w : SeatView) (conn : ℕ) (m : Msg) (result : Result Unit UpEnd)
-    : Type 0 where
-  pub outcome : ReplyOrMemory
-  pub acts : ActsOnce v (Say conn m) outcome w
-  pub ends : EndsBy result outcome (is_disconnect m)
-
 -- the messages of entries
 abbrev pub messages_of : List Entry → List Msg
 messages_of [] = []
@@ -202,7 +187,7 @@ pub record SaidToEnd (v w : SeatView) (left unread : Option (List ℕ)) (stream 
   pub said : SaidBy end conn messages says
   pub rests : RestBy end stream read rest
 
--- by what came of the next message: it was said, and all went on; or the link ended so
+-- by what came of the next messages: they were said, and all went on; or the link ended so
 abbrev pub SaysNext : Result Unit UpEnd → SeatView → SeatView → Option (List ℕ) → Option (List ℕ)
     → Stream → Reader → ℕ → Type 0
 SaysNext (Ok done) v w left unread start link conn = SaidSoFar v w left unread start link conn

@@ -11,7 +11,6 @@ messages-init g c = record {
       (c.calls_add_up.ensures.none c.args.seat.now.view) c.reader_of-link.ensures.limit
       (c.reader_of-link.ensures.begun (g.R.Source.left c.args.rx.now));
   conn = refl;
-  going = c.reader_of-link.ensures.going;
   within = c.reader_of-link.ensures.within;
   limit = c.reader_of-link.ensures.limit;
   kept = refl;
