@@ -9,6 +9,7 @@ ghost use Rattle.dp_serve.specs.Jobs.{MadeJob, MadeJobs, RanJob, RanJobs};
 
 use dp_hall::{Hall, Seat};
 use dp_keeper::Keeper;
+use dp_link::Worker;
 use dp_session::Session;
 use dp_wire::{Gate, Wire};
 use dp_worker::{Worked, run_worker};
@@ -87,27 +88,42 @@ fn make_job<W, K: Keeper>(
     }
 }
 
+/// What the workers of a server share: their threads and memory, the hall of the session, how many
+/// links each may serve, and the gate that they pass.
+#[derive(Clone, Copy)]
+pub(crate) struct Crew<'a, R, K: Keeper, G> {
+    pub(crate) rt: &'a R,
+    pub(crate) alloc: Global,
+    pub(crate) hall: &'a Hall<Session<K>>,
+    /// 2^32 - 1 if no number is given.
+    pub(crate) conns: Option<u32>,
+    pub(crate) gate: &'a G,
+}
+
 /// Runs the workers of the jobs, all at the same time if threads can be made.
 pub(crate) fn run_jobs<W: Wire + Send, K: Keeper + Send, G: Gate, R: Threads + Wait + Sync>(
-    rt: &R,
-    alloc: Global,
-    hall: &Hall<Session<K>>,
+    crew: Crew<'_, R, K, G>,
     jobs: &mut [Job<W, K>],
-    conns: Option<u32>,
-    gate: &G,
 )
-    requires of { All (λ job. IfSome job.seat (IsOf hall.now)) jobs.old }
-    requires start { ShutBefore hall.now.start }
+    requires of { All (λ job. IfSome job.seat (IsOf crew.hall.now)) jobs.old }
+    requires start { ShutBefore crew.hall.now.start }
     ensures { RanJobs (record {
       links = W.links;
       faults = W.faults;
       link = link_seen W.Rx.left W.Rx.faults W.Tx.held W.Tx.faults;
-    }) hall.now (most_links conns) jobs.old jobs.new }
+    }) crew.hall.now (most_links crew.conns) jobs.old jobs.new }
 {
     let threads = jobs.len();
     if threads == 0 {
         return;
     }
+    let Crew {
+        rt,
+        alloc,
+        hall,
+        conns,
+        gate,
+    } = crew;
     for_each_mut(
         rt,
         jobs,
@@ -143,5 +159,12 @@ fn run_job<W: Wire, K: Keeper + Send, G: Gate, R: Threads + Wait + Sync>(
     let Some(seat) = &mut job.seat else {
         return;
     };
-    job.worked = run_worker(rt, alloc, hall, seat, &mut job.wire, job.who, conns, gate);
+    let worker = Worker {
+        rt,
+        alloc,
+        hall,
+        who: job.who,
+        gate,
+    };
+    job.worked = run_worker(worker, seat, &mut job.wire, conns);
 }

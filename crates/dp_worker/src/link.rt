@@ -19,8 +19,9 @@ use dp_epochs::{Event, Reply};
 use dp_hall::{Seat, calls_add_up, seats_are_sound, seats_come_back, seats_rejoin};
 use dp_io::{Sink, Source};
 use dp_keeper::Keeper;
-use dp_link::{DownEnd, GreetEnd, GreetRun, Greeting, UpEnd, UpRun, Worker};
-use dp_link::{greetings_are_seen, run_greet};
+use dp_link::{
+    DownEnd, GreetEnd, GreetRun, Greeting, UpEnd, UpRun, Worker, greetings_are_seen, run_greet,
+};
 use dp_session::Session;
 use dp_session_laws::{feeds_begin, feeds_go_on, gone_goes_on, sessions_go_on};
 use dp_split::Splitter;
@@ -92,12 +93,7 @@ pub(crate) fn serve_link<
     R: Source + Send,
     S: Sink + Send,
     G: Gate,
->(
-    worker: Worker<'_, W, K, G>,
-    seat: &mut Seat<Session<K>>,
-    rx: R,
-    tx: S,
-) -> ServedLink<R, S>
+>(worker: Worker<'_, W, K, G>, seat: &mut Seat<Session<K>>, rx: R, tx: S) -> ServedLink<R, S>
     requires of { IsOf worker.hall.now seat.old }
     requires start { ShutBefore worker.hall.now.start }
     ensures of { IsOf worker.hall.now seat.new }
