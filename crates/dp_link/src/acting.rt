@@ -9,47 +9,52 @@ use dp_hall::{Hall, Seat, calls_add_up};
 use dp_keeper::Keeper;
 use dp_session::Session;
 use dp_wire::Gate;
-use std::alloc::AllocError;
+use std::alloc::{AllocError, Global};
 use std::sync::Wait;
+
+/// A worker of a server: its threads and memory, the hall of its session, its number, and the gate
+/// that it passes after each act.
+#[derive(Drop)]
+pub struct Worker<'a, W, K: Keeper, G> {
+    pub rt: &'a W,
+    pub alloc: Global,
+    pub hall: &'a Hall<Session<K>>,
+    pub who: u32,
+    pub gate: &'a G,
+}
 
 /// Acts an event, the n-th act of the link of this worker, and passes the gate after it.
 pub(crate) fn act_once<W: Wait, K: Keeper, G: Gate>(
-    rt: &W,
-    hall: &Hall<Session<K>>,
+    worker: &Worker<'_, W, K, G>,
     seat: &mut Seat<Session<K>>,
     event: &Event,
-    who: u32,
     n: u64,
-    gate: &G,
 ) -> Result<Reply, AllocError>
-    requires { IsOf hall.now seat.old }
-    ensures of { IsOf hall.now seat.new }
+    requires { IsOf worker.now.hall.now seat.old }
+    ensures of { IsOf worker.now.hall.now seat.new }
     ensures acts { ActsOnce seat.old.view event.now result seat.new.view }
     ensures step { (old new : Past) × Step old event.now result new }
 {
     calls_add_up::<Event, Result<Reply, AllocError>, Session<K>>();
-    let outcome = hall.act(rt, seat, event);
-    gate.pass(who, n);
+    let outcome = worker.hall.act(worker.rt, seat, event);
+    worker.gate.pass(worker.who, n);
     outcome
 }
 
 /// The same, but it wakes nobody.
 pub(crate) fn act_silently<W: Wait, K: Keeper, G: Gate>(
-    rt: &W,
-    hall: &Hall<Session<K>>,
+    worker: &Worker<'_, W, K, G>,
     seat: &mut Seat<Session<K>>,
     event: &Event,
-    who: u32,
     n: u64,
-    gate: &G,
 ) -> Result<Reply, AllocError>
-    requires { IsOf hall.now seat.old }
-    ensures of { IsOf hall.now seat.new }
+    requires { IsOf worker.now.hall.now seat.old }
+    ensures of { IsOf worker.now.hall.now seat.new }
     ensures acts { ActsOnce seat.old.view event.now result seat.new.view }
     ensures step { (old new : Past) × Step old event.now result new }
 {
     calls_add_up::<Event, Result<Reply, AllocError>, Session<K>>();
-    let outcome = hall.act_silently(rt, seat, event);
-    gate.pass(who, n);
+    let outcome = worker.hall.act_silently(worker.rt, seat, event);
+    worker.gate.pass(worker.who, n);
     outcome
 }

@@ -11,13 +11,13 @@ ghost use Rattle.dp_link.specs.Hello.{Greets, FaultMatchesHello, Answers, ReadsN
 ghost use Rattle.dp_link.specs.Hello.{NameOf, Welcomes, RefusesBy, FaultMatchesRefusal};
 ghost use Rattle.dp_link.specs.Hello.{FaultMatchesWelcome};
 
-use crate::acting::act_once;
+use crate::acting::{Worker, act_once};
 use crate::answers::{put_goodbye, put_welcome, reason_of};
 use crate::reading::{greet_end_of, reader_of};
 use crate::{GreetEnd, Greeting};
 use dp_epochs::{Event, Reply};
 use dp_frame::Octets;
-use dp_hall::{Hall, Seat, calls_add_up};
+use dp_hall::{Seat, calls_add_up};
 use dp_io::{Failed, Sink, Source};
 use dp_keeper::Keeper;
 use dp_messages::{Entry, Msg, one_answer};
@@ -39,19 +39,15 @@ use std::sync::Wait;
 /// joined has left again, and a prefix of the answer was written. `Memory` comes before the Open,
 /// or if the Open was refused for it, and nothing is written.
 pub fn greet<W: Wait, K: Keeper, R: Source, S: Sink, G: Gate>(
-    rt: &W,
-    alloc: Global,
-    hall: &Hall<Session<K>>,
+    worker: &Worker<'_, W, K, G>,
     seat: &mut Seat<Session<K>>,
     rx: &mut R,
     tx: &mut S,
     split: &mut Splitter,
-    who: u32,
-    gate: &G,
 ) -> Result<Greeting, GreetEnd>
-    requires of { IsOf hall.now seat.old }
+    requires of { IsOf worker.now.hall.now seat.old }
     requires fresh { split.old ≡ record { held = []; at = 0 } }
-    ensures of { IsOf hall.now seat.new }
+    ensures of { IsOf worker.now.hall.now seat.new }
     ensures greets { Greets seat.old.view seat.new.view (R.left rx.old) (R.left rx.new)
         (S.held tx.old) (S.held tx.new) split.new result }
     ensures within { OnOk result (split.new.at + length split.new.held ≤ stream_limit) }
@@ -59,7 +55,7 @@ pub fn greet<W: Wait, K: Keeper, R: Source, S: Sink, G: Gate>(
     ensures fault { FaultMatchesHello result (R.faults rx.old) (R.faults rx.new)
         (S.faults tx.old) (S.faults tx.new) }
 {
-    run_greet(rt, alloc, hall, seat, rx, tx, split, who, gate).end
+    run_greet(worker, seat, rx, tx, split).end
 }
 
 /// How greeting ended, and what came of its last act, if there was one.
@@ -71,19 +67,15 @@ pub struct GreetRun {
 
 /// The same, with what came of the last act.
 pub fn run_greet<W: Wait, K: Keeper, R: Source, S: Sink, G: Gate>(
-    rt: &W,
-    alloc: Global,
-    hall: &Hall<Session<K>>,
+    worker: &Worker<'_, W, K, G>,
     seat: &mut Seat<Session<K>>,
     rx: &mut R,
     tx: &mut S,
     split: &mut Splitter,
-    who: u32,
-    gate: &G,
 ) -> GreetRun
-    requires of { IsOf hall.now seat.old }
+    requires of { IsOf worker.now.hall.now seat.old }
     requires fresh { split.old ≡ record { held = []; at = 0 } }
-    ensures of { IsOf hall.now seat.new }
+    ensures of { IsOf worker.now.hall.now seat.new }
     ensures greets { (h : Greets seat.old.view seat.new.view (R.left rx.old) (R.left rx.new)
         (S.held tx.old) (S.held tx.new) split.new result.end)
         × (last_outcome h.acts ≡ result.last) }
@@ -93,8 +85,8 @@ pub fn run_greet<W: Wait, K: Keeper, R: Source, S: Sink, G: Gate>(
         (S.faults tx.old) (S.faults tx.new) }
 {
     calls_add_up::<Event, Result<Reply, AllocError>, Session<K>>();
-    match read_name(alloc, rx, split) {
-        Ok(name) => answer(rt, hall, seat, tx, name, who, gate),
+    match read_name(worker.alloc, rx, split) {
+        Ok(name) => answer(worker, seat, tx, name),
         Err(end) => GreetRun {
             end: Err(end),
             last: None,
@@ -146,22 +138,19 @@ fn name_of(alloc: Global, msg: &Msg) -> Result<Octets, GreetEnd>
 
 /// Acts an Open by the name, and writes the answer.
 fn answer<W: Wait, K: Keeper, S: Sink, G: Gate>(
-    rt: &W,
-    hall: &Hall<Session<K>>,
+    worker: &Worker<'_, W, K, G>,
     seat: &mut Seat<Session<K>>,
     tx: &mut S,
     name: Octets,
-    who: u32,
-    gate: &G,
 ) -> GreetRun
-    requires { IsOf hall.now seat.old }
-    ensures of { IsOf hall.now seat.new }
+    requires { IsOf worker.now.hall.now seat.old }
+    ensures of { IsOf worker.now.hall.now seat.new }
     ensures answers { (h : Answers seat.old.view seat.new.view (S.held tx.old) (S.held tx.new)
         name result.end) × (last_outcome h.acts ≡ result.last) }
     ensures fault { FaultMatchesHello result.end 0 0 (S.faults tx.old) (S.faults tx.new) }
 {
-    match open(rt, hall, seat, name, who, gate) {
-        Ok(reply) => answer_reply(rt, hall, seat, tx, reply, who, gate),
+    match open(worker, seat, name) {
+        Ok(reply) => answer_reply(worker, seat, tx, reply),
         Err(error) => GreetRun {
             end: Err(GreetEnd::Memory),
             last: Some(Err(error)),
@@ -171,17 +160,14 @@ fn answer<W: Wait, K: Keeper, S: Sink, G: Gate>(
 
 /// Writes the answer to an Open that had this reply.
 fn answer_reply<W: Wait, K: Keeper, S: Sink, G: Gate>(
-    rt: &W,
-    hall: &Hall<Session<K>>,
+    worker: &Worker<'_, W, K, G>,
     seat: &mut Seat<Session<K>>,
     tx: &mut S,
     reply: Reply,
-    who: u32,
-    gate: &G,
 ) -> GreetRun
-    requires of { IsOf hall.now seat.old }
+    requires of { IsOf worker.now.hall.now seat.old }
     requires reply { OpensWith reply }
-    ensures of { IsOf hall.now seat.new }
+    ensures of { IsOf worker.now.hall.now seat.new }
     ensures answers { (before : SeatView) (name : List ℕ)
         → ActsOnce before (Event.Open name false) (Ok reply) seat.old.view
         → (h : Answers before seat.new.view (S.held tx.old) (S.held tx.new) name result.end)
@@ -203,7 +189,7 @@ fn answer_reply<W: Wait, K: Keeper, S: Sink, G: Gate>(
                 epoch,
                 at,
             };
-            match welcome(rt, hall, seat, tx, &greeting, who, gate) {
+            match welcome(worker, seat, tx, &greeting) {
                 Ok(()) => GreetRun {
                     end: Ok(greeting),
                     last,
@@ -223,15 +209,12 @@ fn answer_reply<W: Wait, K: Keeper, S: Sink, G: Gate>(
 
 /// Acts an Open by the name.
 fn open<W: Wait, K: Keeper, G: Gate>(
-    rt: &W,
-    hall: &Hall<Session<K>>,
+    worker: &Worker<'_, W, K, G>,
     seat: &mut Seat<Session<K>>,
     name: Octets,
-    who: u32,
-    gate: &G,
 ) -> Result<Reply, AllocError>
-    requires { IsOf hall.now seat.old }
-    ensures of { IsOf hall.now seat.new }
+    requires { IsOf worker.now.hall.now seat.old }
+    ensures of { IsOf worker.now.hall.now seat.new }
     ensures acts { ActsOnce seat.old.view (Event.Open name false) result seat.new.view }
     ensures answer { IfOk result OpensWith }
 {
@@ -239,22 +222,19 @@ fn open<W: Wait, K: Keeper, G: Gate>(
         name,
         registered: false,
     };
-    act_once(rt, hall, seat, &event, who, 1, gate)
+    act_once(worker, seat, &event, 1)
 }
 
 /// Writes the Welcome. Where that fails the connection is closed, and the error is what came of
 /// the Close.
 fn welcome<W: Wait, K: Keeper, S: Sink, G: Gate>(
-    rt: &W,
-    hall: &Hall<Session<K>>,
+    worker: &Worker<'_, W, K, G>,
     seat: &mut Seat<Session<K>>,
     tx: &mut S,
     greeting: &Greeting,
-    who: u32,
-    gate: &G,
 ) -> Result<(), Result<Reply, AllocError>>
-    requires { IsOf hall.now seat.old }
-    ensures of { IsOf hall.now seat.new }
+    requires { IsOf worker.now.hall.now seat.old }
+    ensures of { IsOf worker.now.hall.now seat.new }
     ensures welcomes { Welcomes seat.old.view seat.new.view (S.held tx.old) (S.held tx.new)
         greeting.now result }
     ensures fault { FaultMatchesWelcome result (S.faults tx.old) (S.faults tx.new) }
@@ -266,7 +246,7 @@ fn welcome<W: Wait, K: Keeper, S: Sink, G: Gate>(
             let event = Event::Close {
                 conn: greeting.conn,
             };
-            Err(act_once(rt, hall, seat, &event, who, 2, gate))
+            Err(act_once(worker, seat, &event, 2))
         }
     }
 }

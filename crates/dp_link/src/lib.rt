@@ -14,6 +14,7 @@ mod pages;
 mod reading;
 mod up;
 
+pub use acting::Worker;
 pub use down::pump_down;
 pub use ends::{DownEnd, GreetEnd, Greeting, UpEnd};
 pub use hello::{GreetRun, greet, run_greet};

@@ -13,7 +13,7 @@ ghost use Rattle.dp_link.specs.Saying.{SaysAll, SaysNext, SaidSoFar, SaidToEnd, 
 ghost use Rattle.dp_link.specs.Saying.{FaultMatchesSay, FaultMatchesUp, SaysOne};
 
 use crate::UpEnd;
-use crate::acting::{act_once, act_silently};
+use crate::acting::{Worker, act_once, act_silently};
 use crate::reading::{reader_of, up_end_of};
 use dp_entries::{Anywhere, EntryReader};
 use dp_epochs::{Event, Reply};
@@ -24,7 +24,7 @@ use dp_messages::{Entry, Msg, one_answer};
 use dp_session::Session;
 use dp_split::Splitter;
 use dp_wire::Gate;
-use std::alloc::{AllocError, Global};
+use std::alloc::AllocError;
 use std::sync::Wait;
 
 /// How the messages of a link ended, and what the Close was answered.
@@ -38,68 +38,52 @@ pub struct UpRun {
 /// with what the splitter holds. Pieces of at most 4096 bytes are read, and only if no whole
 /// frame is held. Of a link the first 2^30 bytes count.
 pub fn pump_up<W: Wait, K: Keeper, R: Source, G: Gate>(
-    rt: &W,
-    alloc: Global,
-    hall: &Hall<Session<K>>,
+    worker: &Worker<'_, W, K, G>,
     seat: &mut Seat<Session<K>>,
     rx: &mut R,
     split: &mut Splitter,
     conn: u32,
-    who: u32,
-    gate: &G,
 ) -> UpEnd
-    requires of { IsOf hall.now seat.old }
+    requires of { IsOf worker.now.hall.now seat.old }
     requires within { split.old.at + length split.old.held ≤ stream_limit }
-    ensures of { IsOf hall.now seat.new }
+    ensures of { IsOf worker.now.hall.now seat.new }
     ensures says { (outcome : Came) × SaysAll seat.old.view seat.new.view
         (R.left rx.old) (R.left rx.new) split.old conn result outcome }
     ensures at_end { result ≡ UpEnd.End → IsAtEnd (R.left rx.new) }
     ensures fault { FaultMatchesUp result (R.faults rx.old) (R.faults rx.new) }
 {
-    run_up(rt, alloc, hall, seat, rx, split, conn, who, gate).end
+    run_up(worker, seat, rx, split, conn).end
 }
 
 /// The same, with what the Close was answered.
 pub fn run_up<W: Wait, K: Keeper, R: Source, G: Gate>(
-    rt: &W,
-    alloc: Global,
-    hall: &Hall<Session<K>>,
+    worker: &Worker<'_, W, K, G>,
     seat: &mut Seat<Session<K>>,
     rx: &mut R,
     split: &mut Splitter,
     conn: u32,
-    who: u32,
-    gate: &G,
 ) -> UpRun
-    requires of { IsOf hall.now seat.old }
+    requires of { IsOf worker.now.hall.now seat.old }
     requires within { split.old.at + length split.old.held ≤ stream_limit }
-    ensures of { IsOf hall.now seat.new }
+    ensures of { IsOf worker.now.hall.now seat.new }
     ensures says { SaysAll seat.old.view seat.new.view
         (R.left rx.old) (R.left rx.new) split.old conn result.end result.close }
     ensures at_end { result.end ≡ UpEnd.End → IsAtEnd (R.left rx.new) }
     ensures fault { FaultMatchesUp result.end (R.faults rx.old) (R.faults rx.new) }
 {
     calls_add_up::<Event, Result<Reply, AllocError>, Session<K>>();
-    let mut speaker = Speaker {
-        conn,
-        who,
-        acts: 1,
-        gate,
-    };
-    let end = say_all(rt, alloc, hall, seat, rx, split, &mut speaker);
+    let mut speaker = Speaker { conn, acts: 1 };
+    let end = say_all(worker, seat, rx, split, &mut speaker);
     let n = next_act(&mut speaker.acts);
-    let close = act_once(rt, hall, seat, &Event::Close { conn }, who, n, gate);
+    let close = act_once(worker, seat, &Event::Close { conn }, n);
     UpRun { end, close }
 }
 
-/// Who speaks over a link: its connection and its worker, with the number of the last act, after
-/// each of which the worker passes the gate.
+/// Who speaks over a link: its connection, and the number of its last act.
 #[derive(Drop)]
-struct Speaker<'a, G> {
+struct Speaker {
     conn: u32,
-    who: u32,
     acts: u64,
-    gate: &'a G,
 }
 
 /// The number of the next act of a link.
@@ -110,28 +94,26 @@ fn next_act(acts: &mut u64) -> u64 {
 
 /// Says the messages of a link to its end, and wakes those who wait for acts before each read.
 fn say_all<W: Wait, K: Keeper, R: Source, G: Gate>(
-    rt: &W,
-    alloc: Global,
-    hall: &Hall<Session<K>>,
+    worker: &Worker<'_, W, K, G>,
     seat: &mut Seat<Session<K>>,
     rx: &mut R,
     split: &mut Splitter,
-    speaker: &mut Speaker<'_, G>,
+    speaker: &mut Speaker,
 ) -> UpEnd
-    requires of { IsOf hall.now seat.old }
+    requires of { IsOf worker.now.hall.now seat.old }
     requires within { split.old.at + length split.old.held ≤ stream_limit }
-    ensures of { IsOf hall.now seat.new }
+    ensures of { IsOf worker.now.hall.now seat.new }
     ensures says { SaidToEnd seat.old.view seat.new.view
         (R.left rx.old) (R.left rx.new) split.old speaker.old.conn result }
     ensures at_end { result ≡ UpEnd.End → IsAtEnd (R.left rx.new) }
     ensures fault { FaultMatchesUp result (R.faults rx.old) (R.faults rx.new) }
 {
     calls_add_up::<Event, Result<Reply, AllocError>, Session<K>>();
-    let mut link = reader_of(alloc, split);
+    let mut link = reader_of(worker.alloc, split);
     let mut woken = speaker.acts;
     'messages: loop {
-        wake_before_read(hall, &link, speaker.acts, &mut woken);
-        match say_next(rt, alloc, hall, seat, rx, &mut link, speaker) {
+        wake_before_read(worker.hall, &link, speaker.acts, &mut woken);
+        match say_next(worker, seat, rx, &mut link, speaker) {
             Ok(()) => {}
             Err(end) => return end,
         }
@@ -154,17 +136,15 @@ fn wake_before_read<K: Keeper>(
 
 /// Says the next message of a link. It wakes nobody.
 fn say_next<W: Wait, K: Keeper, R: Source, G: Gate>(
-    rt: &W,
-    alloc: Global,
-    hall: &Hall<Session<K>>,
+    worker: &Worker<'_, W, K, G>,
     seat: &mut Seat<Session<K>>,
     rx: &mut R,
     link: &mut EntryReader<Anywhere>,
-    speaker: &mut Speaker<'_, G>,
+    speaker: &mut Speaker,
 ) -> Result<(), UpEnd>
-    requires of { IsOf hall.now seat.old }
+    requires of { IsOf worker.now.hall.now seat.old }
     requires going { ¬ IsTrue link.old.ended }
-    ensures of { IsOf hall.now seat.new }
+    ensures of { IsOf worker.now.hall.now seat.new }
     ensures says { (v : SeatView) (left : Option (List ℕ)) (start : Stream)
         → SaidSoFar v seat.old.view left (R.left rx.old) start link.old speaker.old.conn
         → SaysNext result v seat.new.view left (R.left rx.new) start link.new speaker.old.conn }
@@ -178,8 +158,8 @@ fn say_next<W: Wait, K: Keeper, R: Source, G: Gate>(
 {
     calls_add_up::<Event, Result<Reply, AllocError>, Session<K>>();
     one_answer();
-    match link.next(alloc, rx) {
-        Ok(Some(entry)) => say_entry(rt, hall, seat, entry, speaker),
+    match link.next(worker.alloc, rx) {
+        Ok(Some(entry)) => say_entry(worker, seat, entry, speaker),
         Ok(None) => Err(UpEnd::End),
         Err(end) => Err(up_end_of(&end)),
     }
@@ -187,40 +167,38 @@ fn say_next<W: Wait, K: Keeper, R: Source, G: Gate>(
 
 /// Says the message of an entry.
 fn say_entry<W: Wait, K: Keeper, G: Gate>(
-    rt: &W,
-    hall: &Hall<Session<K>>,
+    worker: &Worker<'_, W, K, G>,
     seat: &mut Seat<Session<K>>,
     entry: Entry,
-    speaker: &mut Speaker<'_, G>,
+    speaker: &mut Speaker,
 ) -> Result<(), UpEnd>
-    requires { IsOf hall.now seat.old }
-    ensures of { IsOf hall.now seat.new }
+    requires { IsOf worker.now.hall.now seat.old }
+    ensures of { IsOf worker.now.hall.now seat.new }
     ensures conn { speaker.new.conn ≡ speaker.old.conn }
     ensures says { SaysOne seat.old.view seat.new.view speaker.old.conn entry.msg result }
 {
     let Entry { msg, user: _ } = entry;
     let leaves = msg.is_disconnect();
-    let outcome = say(rt, hall, seat, msg, speaker);
+    let outcome = say(worker, seat, msg, speaker);
     end_of_say(outcome, leaves)
 }
 
 /// Acts a Say of the message.
 fn say<W: Wait, K: Keeper, G: Gate>(
-    rt: &W,
-    hall: &Hall<Session<K>>,
+    worker: &Worker<'_, W, K, G>,
     seat: &mut Seat<Session<K>>,
     msg: Msg,
-    speaker: &mut Speaker<'_, G>,
+    speaker: &mut Speaker,
 ) -> Result<Reply, AllocError>
-    requires { IsOf hall.now seat.old }
-    ensures of { IsOf hall.now seat.new }
+    requires { IsOf worker.now.hall.now seat.old }
+    ensures of { IsOf worker.now.hall.now seat.new }
     ensures conn { speaker.new.conn ≡ speaker.old.conn }
     ensures acts { ActsOnce seat.old.view (Event.Say speaker.old.conn msg) result seat.new.view }
 {
     let n = next_act(&mut speaker.acts);
     let conn = speaker.conn;
     let event = Event::Say { conn, msg };
-    act_silently(rt, hall, seat, &event, speaker.who, n, speaker.gate)
+    act_silently(worker, seat, &event, n)
 }
 
 /// How a Say of which that came ends a link, if it does.

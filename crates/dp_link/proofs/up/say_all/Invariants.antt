@@ -8,7 +8,7 @@ use Rattle.dp_link.proofs.up.say_all.Given as goal
 -- the messages that the link gave so far were said
 abbrev pub invariant-messages : goal.invariant-messages
 invariant-messages g l = record {
-  of : IsOf l.hall l.seat;
+  of : IsOf l.worker.hall.now l.seat;
   said :
       SaidSoFar l.fn.seat.view l.seat.view (g.R.Source.left l.fn.rx) (g.R.Source.left l.rx)
       l.fn.split l.link l.speaker.conn;
