@@ -63,10 +63,10 @@ fn serve_link<W: Wait + Clock>(
     let gate = OpenGate;
     let worker = Worker { rt, alloc, hall, who: 0, gate: &gate };
     let mut split = Splitter::new(alloc);
-    match greet(worker, seat, rx, tx, &mut split) {
+    match greet(&worker, seat, rx, tx, &mut split) {
         Ok(greeting) => {
             greetings_are_seen(seat);
-            let _end = pump_up(worker, seat, rx, &mut split, greeting.conn);
+            let _end = pump_up(&worker, seat, rx, &mut split, greeting.conn);
             let start = Instant::now(rt);
             let end = pump_down(rt, alloc, hall, seat, tx, &greeting);
             Ok(Some((end, start?.elapsed(rt)?)))

@@ -46,10 +46,10 @@ pub fn serve_link<W: Wait, K: Keeper, R: Source, S: Sink>(
         gate: &gate,
     };
     let mut split = Splitter::new(alloc);
-    match greet(worker, seat, rx, tx, &mut split) {
+    match greet(&worker, seat, rx, tx, &mut split) {
         Ok(greeting) => {
             greetings_are_seen(seat);
-            let UpRun { end, close } = run_up(worker, seat, rx, &mut split, greeting.conn);
+            let UpRun { end, close } = run_up(&worker, seat, rx, &mut split, greeting.conn);
             let down = pump_down(rt, alloc, hall, seat, tx, &greeting);
             Ok((end, close.is_ok(), down))
         }

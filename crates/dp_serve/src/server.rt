@@ -155,7 +155,7 @@ fn serve_wires<W: Wire + Send, K: Keeper + Send, G: Gate, R: Threads + Wait + Sy
                 conns,
                 gate,
             };
-            let flags = run_all(crew, &mut seat, &mut wires, jobs, &mut lists);
+            let flags = run_all(&crew, &mut seat, &mut wires, jobs, &mut lists);
             finish(hall, seat, wires, lists, flags)
         }
         Err(HallError { machine }) => {
@@ -168,25 +168,25 @@ fn serve_wires<W: Wire + Send, K: Keeper + Send, G: Gate, R: Threads + Wait + Sy
 /// Runs a worker for each wire, and gathers what they did. There is room for their jobs and for
 /// their lists of reports.
 fn run_all<W: Wire + Send, K: Keeper + Send, G: Gate, R: Threads + Wait + Sync>(
-    crew: Crew<'_, R, K, G>,
+    crew: &Crew<'_, R, K, G>,
     seat: &mut Seat<Session<K>>,
     wires: &mut Vec<W>,
     jobs: Vec<Job<W, K>>,
     lists: &mut Vec<Vec<LinkReport>>,
 ) -> Flags
-    requires of { IsOf crew.hall.now seat.old }
+    requires of { IsOf crew.now.hall.now seat.old }
     requires first { IsFirst seat.old.view }
-    requires start { ShutBefore crew.hall.now.start }
+    requires start { ShutBefore crew.now.hall.now.start }
     requires few { length wires.old.items ≤ 64 }
     requires empty { (jobs.items ≡ []) × (lists.old.items ≡ []) }
     requires room { (vec_len wires.old ≤ vec_capacity jobs)
         × (vec_len wires.old ≤ vec_capacity lists.old) }
-    ensures of { IsOf crew.hall.now seat.new }
+    ensures of { IsOf crew.now.hall.now seat.new }
     ensures gathers { Gathers (record {
       links = W.links;
       faults = W.faults;
       link = link_seen W.Rx.left W.Rx.faults W.Tx.held W.Tx.faults;
-    }) crew.hall.now.start (most_links crew.conns) seat.new.view [] wires.old.items
+    }) crew.now.hall.now.start (most_links crew.now.conns) seat.new.view [] wires.old.items
         wires.new.items (all_reports lists.new.items) result }
 {
     // Read, so that contracts know its range.

@@ -93,11 +93,11 @@ pub(crate) fn serve_link<
     R: Source + Send,
     S: Sink + Send,
     G: Gate,
->(worker: Worker<'_, W, K, G>, seat: &mut Seat<Session<K>>, rx: R, tx: S) -> ServedLink<R, S>
-    requires of { IsOf worker.hall.now seat.old }
-    requires start { ShutBefore worker.hall.now.start }
-    ensures of { IsOf worker.hall.now seat.new }
-    ensures serves { Serves (session_of worker.hall.now.start seat.new.view) seat.old.view
+>(worker: &Worker<'_, W, K, G>, seat: &mut Seat<Session<K>>, rx: R, tx: S) -> ServedLink<R, S>
+    requires of { IsOf worker.now.hall.now seat.old }
+    requires start { ShutBefore worker.now.hall.now.start }
+    ensures of { IsOf worker.now.hall.now seat.new }
+    ensures serves { Serves (session_of worker.now.hall.now.start seat.new.view) seat.old.view
         seat.new.view result.end (link_seen R.left R.faults S.held S.faults (rx, tx))
         (link_seen R.left R.faults S.held S.faults (result.rx, result.tx)) }
 {
@@ -122,20 +122,20 @@ pub(crate) fn serve_link<
 /// Serves a painter who was greeted, on two seats. If there is no second one, the painter leaves
 /// at once.
 fn talk<W: Threads + Wait + Sync, K: Keeper + Send, R: Source + Send, S: Sink + Send, G: Gate>(
-    worker: Worker<'_, W, K, G>,
+    worker: &Worker<'_, W, K, G>,
     seat: &mut Seat<Session<K>>,
     rx: R,
     tx: S,
     split: Splitter,
     greeting: &Greeting,
 ) -> ServedLink<R, S>
-    requires of { IsOf worker.hall.now seat.old }
-    requires start { ShutBefore worker.hall.now.start }
+    requires of { IsOf worker.now.hall.now seat.old }
+    requires start { ShutBefore worker.now.hall.now.start }
     requires opened { HasOpened seat.old.view.seen greeting.now.conn greeting.now.user
         greeting.now.epoch greeting.now.at }
     requires within { split.at + length split.held ≤ stream_limit }
-    ensures of { IsOf worker.hall.now seat.new }
-    ensures talks { Talks (session_of worker.hall.now.start seat.new.view) seat.old.view
+    ensures of { IsOf worker.now.hall.now seat.new }
+    ensures talks { Talks (session_of worker.now.hall.now.start seat.new.view) seat.old.view
         seat.new.view greeting.now split result.end
         (link_seen R.left R.faults S.held S.faults (rx, tx))
         (link_seen R.left R.faults S.held S.faults (result.rx, result.tx)) }
@@ -162,12 +162,12 @@ fn talk<W: Threads + Wait + Sync, K: Keeper + Send, R: Source + Send, S: Sink + 
 
 /// Acts a Close of the connection, the second act of its link.
 fn leave<W: Wait, K: Keeper, G: Gate>(
-    worker: Worker<'_, W, K, G>,
+    worker: &Worker<'_, W, K, G>,
     seat: &mut Seat<Session<K>>,
     conn: u32,
 ) -> Result<Reply, AllocError>
-    requires { IsOf worker.hall.now seat.old }
-    ensures of { IsOf worker.hall.now seat.new }
+    requires { IsOf worker.now.hall.now seat.old }
+    ensures of { IsOf worker.now.hall.now seat.new }
     ensures acts { ActsOnce seat.old.view (Event.Close conn) result seat.new.view }
 {
     calls_add_up::<Event, Result<Reply, AllocError>, Session<K>>();

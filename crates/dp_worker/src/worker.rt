@@ -54,16 +54,16 @@ impl Worked {
 /// wire fails or there is no memory for a report. A link that was handed out is handed back and has
 /// its report, however it ended. 2^32 - 1 stands for no number.
 pub fn run_worker<W: Wire, K: Keeper + Send, G: Gate, R: Threads + Wait + Sync>(
-    worker: Worker<'_, R, K, G>,
+    worker: &Worker<'_, R, K, G>,
     seat: &mut Seat<Session<K>>,
     wire: &mut W,
     conns: Option<u32>,
 ) -> Worked
-    requires of { IsOf worker.hall.now seat.old }
-    requires start { ShutBefore worker.hall.now.start }
-    ensures of { IsOf worker.hall.now seat.new }
+    requires of { IsOf worker.now.hall.now seat.old }
+    requires start { ShutBefore worker.now.hall.now.start }
+    ensures of { IsOf worker.now.hall.now seat.new }
     ensures works { Works (link_seen W.Rx.left W.Rx.faults W.Tx.held W.Tx.faults)
-        worker.hall.now.start worker.who (most_links conns) seat.old.view seat.new.view
+        worker.now.hall.now.start worker.now.who (most_links conns) seat.old.view seat.new.view
         (W.links wire.old) (W.links wire.new) (W.faults wire.old) (W.faults wire.new) result }
 {
     calls_add_up::<Event, Result<Reply, AllocError>, Session<K>>();
@@ -80,21 +80,21 @@ pub fn run_worker<W: Wire, K: Keeper + Send, G: Gate, R: Threads + Wait + Sync>(
 /// Serves the next link of the wire, if there is one, which gets this number. Whether the worker
 /// goes on. The room for the report is made before the link is accepted.
 fn serve_next<W: Wire, K: Keeper + Send, G: Gate, R: Threads + Wait + Sync>(
-    worker: Worker<'_, R, K, G>,
+    worker: &Worker<'_, R, K, G>,
     seat: &mut Seat<Session<K>>,
     wire: &mut W,
     link: u32,
     worked: &mut Worked,
 ) -> bool
-    requires of { IsOf worker.hall.now seat.old }
-    requires start { ShutBefore worker.hall.now.start }
-    ensures of { IsOf worker.hall.now seat.new }
+    requires of { IsOf worker.now.hall.now seat.old }
+    requires start { ShutBefore worker.now.hall.now.start }
+    ensures of { IsOf worker.now.hall.now seat.new }
     ensures serves { (v : SeatView) (links : Option (Links W.Rx W.Tx)) (count : ℕ)
         → ServedSoFar (link_seen W.Rx.left W.Rx.faults W.Tx.held W.Tx.faults)
-        worker.hall.now.start worker.who link v seat.old.view links (W.links wire.old) count
+        worker.now.hall.now.start worker.now.who link v seat.old.view links (W.links wire.old) count
         (W.faults wire.old) worked.old
         → ServesNext result (link_seen W.Rx.left W.Rx.faults W.Tx.held W.Tx.faults)
-        worker.hall.now.start worker.who link v seat.new.view links (W.links wire.new) count
+        worker.now.hall.now.start worker.now.who link v seat.new.view links (W.links wire.new) count
         (W.faults wire.new) worked.new }
 {
     sessions_go_on();
