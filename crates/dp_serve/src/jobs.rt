@@ -88,14 +88,14 @@ fn make_job<W, K: Keeper>(
     }
 }
 
-/// What the workers of a server share: their threads and memory, the hall of the session, how many
-/// links each may serve, and the gate that they pass.
+/// What the workers of a server share: their threads and memory, the hall of the session, and the
+/// gate that they pass.
 #[derive(Drop)]
 pub(crate) struct Crew<'a, R, K: Keeper, G> {
     pub(crate) rt: &'a R,
     pub(crate) alloc: Global,
     pub(crate) hall: &'a Hall<Session<K>>,
-    /// 2^32 - 1 if no number is given.
+    /// How many links each may serve: 2^32 - 1 if no number is given.
     pub(crate) conns: Option<u32>,
     pub(crate) gate: &'a G,
 }
@@ -128,7 +128,8 @@ pub(crate) fn run_jobs<W: Wire + Send, K: Keeper + Send, G: Gate, R: Threads + W
               links = W.links;
               faults = W.faults;
               link = link_seen W.Rx.left W.Rx.faults W.Tx.held W.Tx.faults;
-            }) crew.entry.now.hall.now (most_links crew.entry.now.conns) job.entry.now job.exit.now }
+            }) crew.entry.now.hall.now (most_links crew.entry.now.conns) job.entry.now
+                job.exit.now }
         { run_job(crew, job) },
     );
 }
