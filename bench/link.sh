@@ -23,7 +23,7 @@ use dp_epochs::{Event, Reply};
 use dp_hall::{Hall, HallError, Seat, calls_add_up, seats_come_back};
 use dp_io::{MemSink, MemSource};
 use dp_keeper::{Rows, SureKeeper};
-use dp_link::{DownEnd, greet, greetings_are_seen, pump_down, pump_up};
+use dp_link::{DownEnd, Worker, greet, greetings_are_seen, pump_down, pump_up};
 use dp_session::Session;
 use dp_split::Splitter;
 use dp_wire::OpenGate;
@@ -60,11 +60,13 @@ fn serve_link<W: Wait + Clock>(
     ensures calls { (acts : List LogEntry) × Continues seat.old.view acts seat.new.view }
 {
     calls_add_up::<Event, Result<Reply, AllocError>, Session<SureKeeper>>();
+    let gate = OpenGate;
+    let worker = Worker { rt, alloc, hall, who: 0, gate: &gate };
     let mut split = Splitter::new(alloc);
-    match greet(rt, alloc, hall, seat, rx, tx, &mut split, 0, &OpenGate) {
+    match greet(&worker, seat, rx, tx, &mut split) {
         Ok(greeting) => {
             greetings_are_seen(seat);
-            let _end = pump_up(rt, alloc, hall, seat, rx, &mut split, greeting.conn, 0, &OpenGate);
+            let _end = pump_up(&worker, seat, rx, &mut split, greeting.conn);
             let start = Instant::now(rt);
             let end = pump_down(rt, alloc, hall, seat, tx, &greeting);
             Ok(Some((end, start?.elapsed(rt)?)))

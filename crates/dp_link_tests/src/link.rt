@@ -10,7 +10,9 @@ use dp_epochs::{Event, Journal, Reply, Shut};
 use dp_hall::{Hall, HallError, Seat, calls_add_up, seats_come_back};
 use dp_io::{Sink, Source};
 use dp_keeper::Keeper;
-use dp_link::{DownEnd, GreetEnd, UpEnd, UpRun, greet, greetings_are_seen, pump_down, run_up};
+use dp_link::{
+    DownEnd, GreetEnd, UpEnd, UpRun, Worker, greet, greetings_are_seen, pump_down, run_up,
+};
 use dp_session::Session;
 use dp_split::Splitter;
 use dp_wire::OpenGate;
@@ -35,21 +37,19 @@ pub fn serve_link<W: Wait, K: Keeper, R: Source, S: Sink>(
     ensures calls { (acts : List LogEntry) × Continues seat.old.view acts seat.new.view }
 {
     calls_add_up::<Event, Result<Reply, AllocError>, Session<K>>();
+    let gate = OpenGate;
+    let worker = Worker {
+        rt,
+        alloc,
+        hall,
+        who: 0,
+        gate: &gate,
+    };
     let mut split = Splitter::new(alloc);
-    match greet(rt, alloc, hall, seat, rx, tx, &mut split, 0, &OpenGate) {
+    match greet(&worker, seat, rx, tx, &mut split) {
         Ok(greeting) => {
             greetings_are_seen(seat);
-            let UpRun { end, close } = run_up(
-                rt,
-                alloc,
-                hall,
-                seat,
-                rx,
-                &mut split,
-                greeting.conn,
-                0,
-                &OpenGate,
-            );
+            let UpRun { end, close } = run_up(&worker, seat, rx, &mut split, greeting.conn);
             let down = pump_down(rt, alloc, hall, seat, tx, &greeting);
             Ok((end, close.is_ok(), down))
         }

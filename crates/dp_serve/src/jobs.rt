@@ -9,6 +9,7 @@ ghost use Rattle.dp_serve.specs.Jobs.{MadeJob, MadeJobs, RanJob, RanJobs};
 
 use dp_hall::{Hall, Seat};
 use dp_keeper::Keeper;
+use dp_link::Worker;
 use dp_session::Session;
 use dp_wire::{Gate, Wire};
 use dp_worker::{Worked, run_worker};
@@ -87,61 +88,74 @@ fn make_job<W, K: Keeper>(
     }
 }
 
+/// What the workers of a server share: their threads and memory, the hall of the session, and the
+/// gate that they pass.
+#[derive(Drop)]
+pub(crate) struct Crew<'a, R, K: Keeper, G> {
+    pub(crate) rt: &'a R,
+    pub(crate) alloc: Global,
+    pub(crate) hall: &'a Hall<Session<K>>,
+    /// How many links each may serve: 2^32 - 1 if no number is given.
+    pub(crate) conns: Option<u32>,
+    pub(crate) gate: &'a G,
+}
+
 /// Runs the workers of the jobs, all at the same time if threads can be made.
 pub(crate) fn run_jobs<W: Wire + Send, K: Keeper + Send, G: Gate, R: Threads + Wait + Sync>(
-    rt: &R,
-    alloc: Global,
-    hall: &Hall<Session<K>>,
+    crew: &Crew<'_, R, K, G>,
     jobs: &mut [Job<W, K>],
-    conns: Option<u32>,
-    gate: &G,
 )
-    requires of { All (λ job. IfSome job.seat (IsOf hall.now)) jobs.old }
-    requires start { ShutBefore hall.now.start }
+    requires of { All (λ job. IfSome job.seat (IsOf crew.now.hall.now)) jobs.old }
+    requires start { ShutBefore crew.now.hall.now.start }
     ensures { RanJobs (record {
       links = W.links;
       faults = W.faults;
       link = link_seen W.Rx.left W.Rx.faults W.Tx.held W.Tx.faults;
-    }) hall.now (most_links conns) jobs.old jobs.new }
+    }) crew.now.hall.now (most_links crew.now.conns) jobs.old jobs.new }
 {
     let threads = jobs.len();
     if threads == 0 {
         return;
     }
     for_each_mut(
-        rt,
+        crew.rt,
         jobs,
         threads,
         &|_, job: &mut Job<W, K>|
-            requires { IfSome job.now.seat (IsOf hall.now) × ShutBefore hall.now.start }
+            requires { IfSome job.now.seat (IsOf crew.now.hall.now)
+                × ShutBefore crew.now.hall.now.start }
             ensures { RanJob (record {
               links = W.links;
               faults = W.faults;
               link = link_seen W.Rx.left W.Rx.faults W.Tx.held W.Tx.faults;
-            }) hall.entry.now (most_links conns) job.entry.now job.exit.now }
-        { run_job(rt, alloc, hall, job, conns, gate) },
+            }) crew.entry.now.hall.now (most_links crew.entry.now.conns) job.entry.now
+                job.exit.now }
+        { run_job(crew, job) },
     );
 }
 
 /// Runs the worker of a job.
 fn run_job<W: Wire, K: Keeper + Send, G: Gate, R: Threads + Wait + Sync>(
-    rt: &R,
-    alloc: Global,
-    hall: &Hall<Session<K>>,
+    crew: &Crew<'_, R, K, G>,
     job: &mut Job<W, K>,
-    conns: Option<u32>,
-    gate: &G,
 )
-    requires of { IfSome job.old.seat (IsOf hall.now) }
-    requires start { ShutBefore hall.now.start }
+    requires of { IfSome job.old.seat (IsOf crew.now.hall.now) }
+    requires start { ShutBefore crew.now.hall.now.start }
     ensures { RanJob (record {
       links = W.links;
       faults = W.faults;
       link = link_seen W.Rx.left W.Rx.faults W.Tx.held W.Tx.faults;
-    }) hall.now (most_links conns) job.old job.new }
+    }) crew.now.hall.now (most_links crew.now.conns) job.old job.new }
 {
     let Some(seat) = &mut job.seat else {
         return;
     };
-    job.worked = run_worker(rt, alloc, hall, seat, &mut job.wire, job.who, conns, gate);
+    let worker = Worker {
+        rt: crew.rt,
+        alloc: crew.alloc,
+        hall: crew.hall,
+        who: job.who,
+        gate: crew.gate,
+    };
+    job.worked = run_worker(&worker, seat, &mut job.wire, crew.conns);
 }

@@ -14,7 +14,7 @@ ghost use Rattle.dp_serve.specs.Reports.{all_reports};
 use crate::Reports;
 use crate::closings::{broke, close_open, ran_out};
 use crate::gather::{Flags, gather};
-use crate::jobs::{Job, make_jobs, run_jobs};
+use crate::jobs::{Crew, Job, make_jobs, run_jobs};
 use dp_epochs::{Journal, Shut};
 use dp_hall::{Hall, HallError, Seat};
 use dp_keeper::Keeper;
@@ -148,9 +148,14 @@ fn serve_wires<W: Wire + Send, K: Keeper + Send, G: Gate, R: Threads + Wait + Sy
     }
     match Hall::start(alloc, session) {
         Ok((hall, mut seat)) => {
-            let flags = run_all(
-                rt, alloc, &hall, &mut seat, &mut wires, jobs, &mut lists, conns, gate,
-            );
+            let crew = Crew {
+                rt,
+                alloc,
+                hall: &hall,
+                conns,
+                gate,
+            };
+            let flags = run_all(&crew, &mut seat, &mut wires, jobs, &mut lists);
             finish(hall, seat, wires, lists, flags)
         }
         Err(HallError { machine }) => {
@@ -163,37 +168,33 @@ fn serve_wires<W: Wire + Send, K: Keeper + Send, G: Gate, R: Threads + Wait + Sy
 /// Runs a worker for each wire, and gathers what they did. There is room for their jobs and for
 /// their lists of reports.
 fn run_all<W: Wire + Send, K: Keeper + Send, G: Gate, R: Threads + Wait + Sync>(
-    rt: &R,
-    alloc: Global,
-    hall: &Hall<Session<K>>,
+    crew: &Crew<'_, R, K, G>,
     seat: &mut Seat<Session<K>>,
     wires: &mut Vec<W>,
     jobs: Vec<Job<W, K>>,
     lists: &mut Vec<Vec<LinkReport>>,
-    conns: Option<u32>,
-    gate: &G,
 ) -> Flags
-    requires of { IsOf hall.now seat.old }
+    requires of { IsOf crew.now.hall.now seat.old }
     requires first { IsFirst seat.old.view }
-    requires start { ShutBefore hall.now.start }
+    requires start { ShutBefore crew.now.hall.now.start }
     requires few { length wires.old.items ≤ 64 }
     requires empty { (jobs.items ≡ []) × (lists.old.items ≡ []) }
     requires room { (vec_len wires.old ≤ vec_capacity jobs)
         × (vec_len wires.old ≤ vec_capacity lists.old) }
-    ensures of { IsOf hall.now seat.new }
+    ensures of { IsOf crew.now.hall.now seat.new }
     ensures gathers { Gathers (record {
       links = W.links;
       faults = W.faults;
       link = link_seen W.Rx.left W.Rx.faults W.Tx.held W.Tx.faults;
-    }) hall.now.start (most_links conns) seat.new.view [] wires.old.items wires.new.items
-        (all_reports lists.new.items) result }
+    }) crew.now.hall.now.start (most_links crew.now.conns) seat.new.view [] wires.old.items
+        wires.new.items (all_reports lists.new.items) result }
 {
     // Read, so that contracts know its range.
-    let _most = conns.unwrap_or(u32::MAX);
+    let _most = crew.conns.unwrap_or(u32::MAX);
     let mut jobs = jobs;
-    make_jobs(alloc, hall, seat, wires, &mut jobs);
-    run_jobs(rt, alloc, hall, &mut jobs, conns, gate);
-    let flags = gather(hall, seat, &mut jobs, wires, lists);
+    make_jobs(crew.alloc, crew.hall, seat, wires, &mut jobs);
+    run_jobs(crew, &mut jobs);
+    let flags = gather(crew.hall, seat, &mut jobs, wires, lists);
     jobs.destroy_empty();
     flags
 }

@@ -16,15 +16,17 @@ ghost use Rattle.dp_worker.specs.Serving.{is_last_store_fault};
 
 use crate::pumps::{Pumped, run_pumps};
 use dp_epochs::{Event, Reply};
-use dp_hall::{Hall, Seat, calls_add_up, seats_are_sound, seats_come_back, seats_rejoin};
+use dp_hall::{Seat, calls_add_up, seats_are_sound, seats_come_back, seats_rejoin};
 use dp_io::{Sink, Source};
 use dp_keeper::Keeper;
-use dp_link::{DownEnd, GreetEnd, GreetRun, Greeting, UpEnd, UpRun, greetings_are_seen, run_greet};
+use dp_link::{
+    DownEnd, GreetEnd, GreetRun, Greeting, UpEnd, UpRun, Worker, greetings_are_seen, run_greet,
+};
 use dp_session::Session;
 use dp_session_laws::{feeds_begin, feeds_go_on, gone_goes_on, sessions_go_on};
 use dp_split::Splitter;
 use dp_wire::Gate;
-use std::alloc::{AllocError, Global};
+use std::alloc::AllocError;
 use std::sync::Wait;
 use std::thread::Threads;
 
@@ -91,35 +93,24 @@ pub(crate) fn serve_link<
     R: Source + Send,
     S: Sink + Send,
     G: Gate,
->(
-    rt: &W,
-    alloc: Global,
-    hall: &Hall<Session<K>>,
-    seat: &mut Seat<Session<K>>,
-    rx: R,
-    tx: S,
-    who: u32,
-    gate: &G,
-) -> ServedLink<R, S>
-    requires of { IsOf hall.now seat.old }
-    requires start { ShutBefore hall.now.start }
-    ensures of { IsOf hall.now seat.new }
-    ensures serves { Serves (session_of hall.now.start seat.new.view) seat.old.view seat.new.view
-        result.end (link_seen R.left R.faults S.held S.faults (rx, tx))
+>(worker: &Worker<'_, W, K, G>, seat: &mut Seat<Session<K>>, rx: R, tx: S) -> ServedLink<R, S>
+    requires of { IsOf worker.now.hall.now seat.old }
+    requires start { ShutBefore worker.now.hall.now.start }
+    ensures of { IsOf worker.now.hall.now seat.new }
+    ensures serves { Serves (session_of worker.now.hall.now.start seat.new.view) seat.old.view
+        seat.new.view result.end (link_seen R.left R.faults S.held S.faults (rx, tx))
         (link_seen R.left R.faults S.held S.faults (result.rx, result.tx)) }
 {
     calls_add_up::<Event, Result<Reply, AllocError>, Session<K>>();
     seats_come_back::<Event, Result<Reply, AllocError>, Session<K>>();
     let mut rx = rx;
     let mut tx = tx;
-    let mut split = Splitter::new(alloc);
-    let GreetRun { end, last } = run_greet(
-        rt, alloc, hall, seat, &mut rx, &mut tx, &mut split, who, gate,
-    );
+    let mut split = Splitter::new(worker.alloc);
+    let GreetRun { end, last } = run_greet(worker, seat, &mut rx, &mut tx, &mut split);
     match end {
         Ok(greeting) => {
             greetings_are_seen(seat);
-            talk(rt, alloc, hall, seat, rx, tx, split, &greeting, who, gate)
+            talk(worker, seat, rx, tx, split, &greeting)
         }
         Err(end) => {
             let end = LinkEnd::refused(end, last);
@@ -131,25 +122,22 @@ pub(crate) fn serve_link<
 /// Serves a painter who was greeted, on two seats. If there is no second one, the painter leaves
 /// at once.
 fn talk<W: Threads + Wait + Sync, K: Keeper + Send, R: Source + Send, S: Sink + Send, G: Gate>(
-    rt: &W,
-    alloc: Global,
-    hall: &Hall<Session<K>>,
+    worker: &Worker<'_, W, K, G>,
     seat: &mut Seat<Session<K>>,
     rx: R,
     tx: S,
     split: Splitter,
     greeting: &Greeting,
-    who: u32,
-    gate: &G,
 ) -> ServedLink<R, S>
-    requires of { IsOf hall.now seat.old }
-    requires start { ShutBefore hall.now.start }
+    requires of { IsOf worker.now.hall.now seat.old }
+    requires start { ShutBefore worker.now.hall.now.start }
     requires opened { HasOpened seat.old.view.seen greeting.now.conn greeting.now.user
         greeting.now.epoch greeting.now.at }
     requires within { split.at + length split.held ≤ stream_limit }
-    ensures of { IsOf hall.now seat.new }
-    ensures talks { Talks (session_of hall.now.start seat.new.view) seat.old.view seat.new.view
-        greeting.now split result.end (link_seen R.left R.faults S.held S.faults (rx, tx))
+    ensures of { IsOf worker.now.hall.now seat.new }
+    ensures talks { Talks (session_of worker.now.hall.now.start seat.new.view) seat.old.view
+        seat.new.view greeting.now split result.end
+        (link_seen R.left R.faults S.held S.faults (rx, tx))
         (link_seen R.left R.faults S.held S.faults (result.rx, result.tx)) }
 {
     calls_add_up::<Event, Result<Reply, AllocError>, Session<K>>();
@@ -160,35 +148,30 @@ fn talk<W: Threads + Wait + Sync, K: Keeper + Send, R: Source + Send, S: Sink + 
     feeds_go_on();
     gone_goes_on();
     let conn = greeting.conn;
-    let Ok(other) = hall.split(seat) else {
-        let close = leave(rt, hall, seat, conn, who, gate);
+    let Ok(other) = worker.hall.split(seat) else {
+        let close = leave(worker, seat, conn);
         seats_are_sound(seat);
         let end = UpEnd::Memory;
         let end = LinkEnd::served(conn, UpRun { end, close }, DownEnd::Memory);
         return ServedLink { rx, tx, end };
     };
-    let Pumped { rx, tx, down, run } = run_pumps(
-        rt, alloc, hall, seat, other, rx, tx, split, greeting, who, gate,
-    );
+    let Pumped { rx, tx, down, run } = run_pumps(worker, seat, other, rx, tx, split, greeting);
     let end = LinkEnd::served(conn, run, down);
     ServedLink { rx, tx, end }
 }
 
 /// Acts a Close of the connection, the second act of its link.
 fn leave<W: Wait, K: Keeper, G: Gate>(
-    rt: &W,
-    hall: &Hall<Session<K>>,
+    worker: &Worker<'_, W, K, G>,
     seat: &mut Seat<Session<K>>,
     conn: u32,
-    who: u32,
-    gate: &G,
 ) -> Result<Reply, AllocError>
-    requires { IsOf hall.now seat.old }
-    ensures of { IsOf hall.now seat.new }
+    requires { IsOf worker.now.hall.now seat.old }
+    ensures of { IsOf worker.now.hall.now seat.new }
     ensures acts { ActsOnce seat.old.view (Event.Close conn) result seat.new.view }
 {
     calls_add_up::<Event, Result<Reply, AllocError>, Session<K>>();
-    let outcome = hall.act(rt, seat, &Event::Close { conn });
-    gate.pass(who, 2);
+    let outcome = worker.hall.act(worker.rt, seat, &Event::Close { conn });
+    worker.gate.pass(worker.who, 2);
     outcome
 }

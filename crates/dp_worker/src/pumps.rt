@@ -13,14 +13,13 @@ ghost use Rattle.dp_link.specs.declared.ends.UpEnd.TheVariants.{End};
 ghost use Rattle.dp_worker.specs.Links.{link_seen};
 ghost use Rattle.dp_worker.specs.Serving.{Pumps};
 
-use dp_hall::{Hall, Seat};
+use dp_hall::Seat;
 use dp_io::{Sink, Source};
 use dp_keeper::Keeper;
-use dp_link::{DownEnd, Greeting, UpRun, pump_down, run_up};
+use dp_link::{DownEnd, Greeting, UpRun, Worker, pump_down, run_up};
 use dp_session::Session;
 use dp_split::Splitter;
 use dp_wire::Gate;
-use std::alloc::Global;
 use std::sync::Wait;
 use std::thread::{Threads, join_mut};
 
@@ -40,26 +39,22 @@ pub(crate) fn run_pumps<
     S: Sink + Send,
     G: Gate,
 >(
-    rt: &W,
-    alloc: Global,
-    hall: &Hall<Session<K>>,
+    worker: &Worker<'_, W, K, G>,
     seat: &mut Seat<Session<K>>,
     other: Seat<Session<K>>,
     rx: R,
     tx: S,
     split: Splitter,
     greeting: &Greeting,
-    who: u32,
-    gate: &G,
 ) -> Pumped<R, S>
-    requires of { IsOf hall.now seat.old × IsOf hall.now other }
-    requires start { ShutBefore hall.now.start }
+    requires of { IsOf worker.now.hall.now seat.old × IsOf worker.now.hall.now other }
+    requires start { ShutBefore worker.now.hall.now.start }
     requires opened { HasOpened other.view.seen greeting.now.conn greeting.now.user
         greeting.now.epoch greeting.now.at }
     requires within { split.at + length split.held ≤ stream_limit }
-    ensures of { IsOf hall.now seat.new }
-    ensures pumps { Pumps hall.now.start seat.old.view other.view seat.new.view greeting.now.conn
-        split (link_seen R.left R.faults S.held S.faults (rx, tx))
+    ensures of { IsOf worker.now.hall.now seat.new }
+    ensures pumps { Pumps worker.now.hall.now.start seat.old.view other.view seat.new.view
+        greeting.now.conn split (link_seen R.left R.faults S.held S.faults (rx, tx))
         (link_seen R.left R.faults S.held S.faults (result.rx, result.tx)) result.down
         result.run }
 {
@@ -67,11 +62,10 @@ pub(crate) fn run_pumps<
     let mut rx = rx;
     let mut tx = tx;
     let mut split = split;
-    let conn = greeting.conn;
     let (down, run) = run_both(
-        rt, alloc, hall, seat, &mut other, &mut rx, &mut tx, &mut split, greeting, conn, who, gate,
+        worker, seat, &mut other, &mut rx, &mut tx, &mut split, greeting,
     );
-    hall.join_into(seat, other);
+    worker.hall.join_into(seat, other);
     Pumped { rx, tx, down, run }
 }
 
@@ -86,28 +80,22 @@ fn run_both<
     S: Sink + Send,
     G: Gate,
 >(
-    rt: &'a W,
-    alloc: Global,
-    hall: &'a Hall<Session<K>>,
+    worker: &'a Worker<'a, W, K, G>,
     seat: &mut Seat<Session<K>>,
     other: &mut Seat<Session<K>>,
     rx: &mut R,
     tx: &mut S,
     split: &mut Splitter,
     greeting: &'a Greeting,
-    conn: u32,
-    who: u32,
-    gate: &'a G,
 ) -> (DownEnd, UpRun)
-    requires of { IsOf hall.now seat.old × IsOf hall.now other.old }
-    requires start { ShutBefore hall.now.start }
+    requires of { IsOf worker.now.hall.now seat.old × IsOf worker.now.hall.now other.old }
+    requires start { ShutBefore worker.now.hall.now.start }
     requires opened { HasOpened other.old.view.seen greeting.now.conn greeting.now.user
         greeting.now.epoch greeting.now.at }
-    requires conn { conn ≡ greeting.now.conn }
     requires within { split.old.at + length split.old.held ≤ stream_limit }
-    ensures of { IsOf hall.now seat.new × IsOf hall.now other.new }
+    ensures of { IsOf worker.now.hall.now seat.new × IsOf worker.now.hall.now other.new }
     ensures calls { Continues other.old.view [] other.new.view }
-    ensures sends { Sends (session_of hall.now.start other.new.view) greeting.now.conn
+    ensures sends { Sends (session_of worker.now.hall.now.start other.new.view) greeting.now.conn
         (S.held tx.old) (S.held tx.new) result.0 }
     ensures writes { FaultMatchesDown result.0 (S.faults tx.old) (S.faults tx.new) }
     ensures says { SaysAll seat.old.view seat.new.view (R.left rx.old) (R.left rx.new) split.old
@@ -115,27 +103,27 @@ fn run_both<
     ensures at_end { result.1.end ≡ End → IsAtEnd (R.left rx.new) }
     ensures reads { FaultMatchesUp result.1.end (R.faults rx.old) (R.faults rx.new) }
 {
-    let memory = alloc;
+    let conn = greeting.conn;
     join_mut(
-        rt,
+        worker.rt,
         &mut || -> DownEnd
-            requires { IsOf hall.now other.now × ShutBefore hall.now.start
+            requires { IsOf worker.now.hall.now other.now × ShutBefore worker.now.hall.now.start
                 × HasOpened other.now.view.seen greeting.now.conn greeting.now.user
                 greeting.now.epoch greeting.now.at }
-            ensures { IsOf hall.entry.now other.exit.now
+            ensures { IsOf worker.entry.now.hall.now other.exit.now
                 × Continues other.entry.now.view [] other.exit.now.view
-                × Sends (session_of hall.entry.now.start other.exit.now.view)
+                × Sends (session_of worker.entry.now.hall.now.start other.exit.now.view)
                 greeting.entry.now.conn (S.held tx.entry.now) (S.held tx.exit.now) result
                 × FaultMatchesDown result (S.faults tx.entry.now) (S.faults tx.exit.now) }
-        { pump_down(rt, alloc, hall, other, tx, greeting) },
+        { pump_down(worker.rt, worker.alloc, worker.hall, other, tx, greeting) },
         &mut || -> UpRun
-            requires { IsOf hall.now seat.now
+            requires { IsOf worker.now.hall.now seat.now
                 × (split.now.at + length split.now.held ≤ stream_limit) }
-            ensures { IsOf hall.entry.now seat.exit.now
+            ensures { IsOf worker.entry.now.hall.now seat.exit.now
                 × SaysAll seat.entry.now.view seat.exit.now.view (R.left rx.entry.now)
                 (R.left rx.exit.now) split.entry.now conn result.end result.close
                 × (result.end ≡ End → IsAtEnd (R.left rx.exit.now))
                 × FaultMatchesUp result.end (R.faults rx.entry.now) (R.faults rx.exit.now) }
-        { run_up(rt, memory, hall, seat, rx, split, conn, who, gate) },
+        { run_up(worker, seat, rx, split, conn) },
     )
 }

@@ -12,8 +12,9 @@ ghost use Rattle.dp_worker.specs.Works.{Works, ServedSoFar, ServesNext, most_lin
 use crate::LinkReport;
 use crate::link::{LinkEnd, ServedLink, serve_link};
 use dp_epochs::{Event, Reply};
-use dp_hall::{Hall, Seat, calls_add_up, seats_are_sound, seats_come_back};
+use dp_hall::{Seat, calls_add_up, seats_are_sound, seats_come_back};
 use dp_keeper::Keeper;
+use dp_link::Worker;
 use dp_session::Session;
 use dp_session_laws::{feeds_go_on, gone_goes_on, sessions_go_on};
 use dp_wire::{Gate, Wire, WireError};
@@ -53,27 +54,23 @@ impl Worked {
 /// wire fails or there is no memory for a report. A link that was handed out is handed back and has
 /// its report, however it ended. 2^32 - 1 stands for no number.
 pub fn run_worker<W: Wire, K: Keeper + Send, G: Gate, R: Threads + Wait + Sync>(
-    rt: &R,
-    alloc: Global,
-    hall: &Hall<Session<K>>,
+    worker: &Worker<'_, R, K, G>,
     seat: &mut Seat<Session<K>>,
     wire: &mut W,
-    who: u32,
     conns: Option<u32>,
-    gate: &G,
 ) -> Worked
-    requires of { IsOf hall.now seat.old }
-    requires start { ShutBefore hall.now.start }
-    ensures of { IsOf hall.now seat.new }
+    requires of { IsOf worker.now.hall.now seat.old }
+    requires start { ShutBefore worker.now.hall.now.start }
+    ensures of { IsOf worker.now.hall.now seat.new }
     ensures works { Works (link_seen W.Rx.left W.Rx.faults W.Tx.held W.Tx.faults)
-        hall.now.start who (most_links conns) seat.old.view seat.new.view
+        worker.now.hall.now.start worker.now.who (most_links conns) seat.old.view seat.new.view
         (W.links wire.old) (W.links wire.new) (W.faults wire.old) (W.faults wire.new) result }
 {
     calls_add_up::<Event, Result<Reply, AllocError>, Session<K>>();
     let most = conns.unwrap_or(u32::MAX);
-    let mut worked = Worked::new(alloc);
+    let mut worked = Worked::new(worker.alloc);
     'links: for link in 0..most {
-        if !serve_next(rt, alloc, hall, seat, wire, who, link, gate, &mut worked) {
+        if !serve_next(worker, seat, wire, link, &mut worked) {
             return worked;
         }
     }
@@ -83,25 +80,21 @@ pub fn run_worker<W: Wire, K: Keeper + Send, G: Gate, R: Threads + Wait + Sync>(
 /// Serves the next link of the wire, if there is one, which gets this number. Whether the worker
 /// goes on. The room for the report is made before the link is accepted.
 fn serve_next<W: Wire, K: Keeper + Send, G: Gate, R: Threads + Wait + Sync>(
-    rt: &R,
-    alloc: Global,
-    hall: &Hall<Session<K>>,
+    worker: &Worker<'_, R, K, G>,
     seat: &mut Seat<Session<K>>,
     wire: &mut W,
-    who: u32,
     link: u32,
-    gate: &G,
     worked: &mut Worked,
 ) -> bool
-    requires of { IsOf hall.now seat.old }
-    requires start { ShutBefore hall.now.start }
-    ensures of { IsOf hall.now seat.new }
+    requires of { IsOf worker.now.hall.now seat.old }
+    requires start { ShutBefore worker.now.hall.now.start }
+    ensures of { IsOf worker.now.hall.now seat.new }
     ensures serves { (v : SeatView) (links : Option (Links W.Rx W.Tx)) (count : ℕ)
         → ServedSoFar (link_seen W.Rx.left W.Rx.faults W.Tx.held W.Tx.faults)
-        hall.now.start who link v seat.old.view links (W.links wire.old) count
+        worker.now.hall.now.start worker.now.who link v seat.old.view links (W.links wire.old) count
         (W.faults wire.old) worked.old
         → ServesNext result (link_seen W.Rx.left W.Rx.faults W.Tx.held W.Tx.faults)
-        hall.now.start who link v seat.new.view links (W.links wire.new) count
+        worker.now.hall.now.start worker.now.who link v seat.new.view links (W.links wire.new) count
         (W.faults wire.new) worked.new }
 {
     sessions_go_on();
@@ -113,10 +106,10 @@ fn serve_next<W: Wire, K: Keeper + Send, G: Gate, R: Threads + Wait + Sync>(
     }
     match wire.accept() {
         Ok(Some((rx, tx))) => {
-            let ServedLink { rx, tx, end } = serve_link(rt, alloc, hall, seat, rx, tx, who, gate);
+            let ServedLink { rx, tx, end } = serve_link(worker, seat, rx, tx);
             seats_are_sound(seat);
             wire.done(rx, tx);
-            note(worked, who, link, end);
+            note(worked, worker.who, link, end);
             true
         }
         Ok(None) => false,

@@ -12,7 +12,7 @@ use Rattle.dp_worker.proofs.link.talk.Goals as goal
 
 pub returns-in_default-clause-talks : goal.returns-in_default-clause-talks
 returns-in_default-clause-talks g c =
-    let start = c.args.hall.now.start in
+    let start = c.args.worker.now.hall.now.start in
     let v = c.args.seat.now.view in
     let w = c.leave-close.new.seat.view in
     let greeting = c.args.greeting.now in
@@ -35,7 +35,7 @@ returns-in_default-clause-talks g c =
 
 pub returns-clause-talks : goal.returns-clause-talks
 returns-clause-talks g c =
-    let start = c.args.hall.now.start in
+    let start = c.args.worker.now.hall.now.start in
     let v = c.args.seat.now.view in
     let w = c.run_pumps-rx.new.seat.view in
     let pumps = c.run_pumps-rx.ensures.pumps in

@@ -10,4 +10,5 @@ join_mut-requires-send-F g c κs within =
     let seat = session_seat_send (param 1 g.row.K) g.K.Keeper c.type_bounds.send-K in
     let rt = c.type_bounds.sync-W in
     let sink = c.type_bounds.send-S in
+    let gate = c.type_bounds.sync-G in
     search (sendable, crosses) depth 20

@@ -12,7 +12,7 @@ links-init g c =
       of = c.requires.of;
       far =
           served-none (link_seen g.W.Rx.Source.left g.W.Rx.Source.faults g.W.Tx.Sink.held
-          g.W.Tx.Sink.faults) c.args.hall.now.start c.args.who v
+          g.W.Tx.Sink.faults) c.args.worker.now.hall.now.start c.args.worker.now.who v
           (g.W.Wire.links c.args.wire.now) (g.W.Wire.faults c.args.wire.now)
           c.new-worked.result same (works-calls v v [] (λ out h. h) same)
           c.new-worked.ensures.reports c.new-worked.ensures.flags.0

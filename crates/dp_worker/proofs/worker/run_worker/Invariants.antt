@@ -6,9 +6,9 @@ use Rattle.dp_worker.proofs.worker.run_worker.Given as goal
 -- the links before this one were served
 abbrev pub invariant-links : goal.invariant-links
 invariant-links g l = record {
-  of : IsOf l.hall l.seat;
+  of : IsOf l.worker.hall.now l.seat;
   far : ServedSoFar (link_seen g.W.Rx.Source.left g.W.Rx.Source.faults g.W.Tx.Sink.held
-      g.W.Tx.Sink.faults) l.hall.start l.who l.link l.initial.seat.view l.seat.view
-      (g.W.Wire.links l.initial.wire) (g.W.Wire.links l.wire) (g.W.Wire.faults l.initial.wire)
-      (g.W.Wire.faults l.wire) l.worked;
+      g.W.Tx.Sink.faults) l.worker.hall.now.start l.worker.who l.link l.initial.seat.view
+      l.seat.view (g.W.Wire.links l.initial.wire) (g.W.Wire.links l.wire)
+      (g.W.Wire.faults l.initial.wire) (g.W.Wire.faults l.wire) l.worked;
 }

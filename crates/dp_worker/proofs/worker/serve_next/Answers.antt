@@ -10,7 +10,7 @@ pub returns-in-Ok-Some-clause-serves : goal.returns-in-Ok-Some-clause-serves
 returns-in-Ok-Some-clause-serves g c = λ v links count far.
     let see = link_seen g.W.Rx.Source.left g.W.Rx.Source.faults g.W.Tx.Sink.held
     g.W.Tx.Sink.faults in
-    let start = c.args.hall.now.start in
+    let start = c.args.worker.now.hall.now.start in
     let u = c.args.seat.now.view in
     let w = c.serve_link-rx.new.seat.view in
     let laws : FeedLaws = record {
@@ -19,14 +19,14 @@ returns-in-Ok-Some-clause-serves g c = λ v links count far.
       gone = c.gone_goes_on.ensures;
     } in
     let report : LinkReport = record {
-      worker = c.args.who;
+      worker = c.args.worker.now.who;
       link = c.args.link;
       conn = c.serve_link-rx.result.end.conn;
       up_end = c.serve_link-rx.result.end.up;
       down_end = c.serve_link-rx.result.end.down;
     } in
     let out = rw c.in-Ok-Some.field-0-is at c.in-Ok-Some.ensures.links in
-    served-more see start c.args.who laws c.args.link v u w links
+    served-more see start c.args.worker.now.who laws c.args.link v u w links
     (g.W.Wire.links c.args.wire.now) (g.W.Wire.links c.accept.new.self)
     (g.W.Wire.links c.done.new.self) count (g.W.Wire.faults c.args.wire.now)
     (g.W.Wire.faults c.done.new.self) c.args.worked.now c.note.new.worked
@@ -44,7 +44,8 @@ returns-in-Ok-None-clause-serves g c = λ v links count far.
     let see = link_seen g.W.Rx.Source.left g.W.Rx.Source.faults g.W.Tx.Sink.held
     g.W.Tx.Sink.faults in
     let none = rw c.in-Ok-None.field-0-is at c.in-Ok-None.ensures.links in
-    served-last see c.args.hall.now.start c.args.who c.args.link v c.args.seat.now.view links
-    (g.W.Wire.links c.args.wire.now) (g.W.Wire.links c.accept.new.self) count
-    (g.W.Wire.faults c.args.wire.now) (g.W.Wire.faults c.accept.new.self) c.args.worked.now _ far
-    none c.in-Ok-None.ensures.cause.kept c.reserve.ensures.items refl refl refl
+    served-last see c.args.worker.now.hall.now.start c.args.worker.now.who c.args.link v
+    c.args.seat.now.view links (g.W.Wire.links c.args.wire.now)
+    (g.W.Wire.links c.accept.new.self) count (g.W.Wire.faults c.args.wire.now)
+    (g.W.Wire.faults c.accept.new.self) c.args.worked.now _ far none
+    c.in-Ok-None.ensures.cause.kept c.reserve.ensures.items refl refl refl
