@@ -10,7 +10,8 @@ It looks at text alone and proves nothing, in a few seconds. It finds
 - a sentence of README.md with over 25 words;
 - a file, crate or backquoted name in a document that isn't there, or not in the crate that it names;
 - a line of over 100 columns that the formatter could break;
-- a function of over 40 lines, or of over 7 parameters that isn't a test's.
+- a function of over 40 lines, or of over 7 parameters, that isn't a test's. Those of `MANY_PARAMETERS`
+  may have more.
 The status is 1 where it finds anything."""
 import glob
 import os
@@ -26,6 +27,12 @@ LEMMA = re.compile(r"^((?:  )?)(?:abbrev )?pub ([^\s:(]+)(?: :|$)", re.M)
 FN = re.compile(r"^( *)(?:pub(?:\([^)]*\))? )?(?:const )?fn (\w+)")
 # What a name in a proof file may be written with, beside letters, digits and `_`.
 WORD = r"[^\s(){}\[\],;:.λ]+"
+# Functions that may have more than 7 parameters, by crate and name, each with its reason.
+MANY_PARAMETERS = {
+    # The top call. Each thing that the program may touch is a parameter of its own, so that its
+    # clauses name it: the words, three streams, the wires, the store, the gate and two counters.
+    ("dp_app", "drawpile"),
+}
 # Names that documents use for what isn't this repository's: of the toolchain, of Rust, of the shell.
 DOCUMENTS = ("README.md", "CONTRIBUTING.md", "docs/architecture.md", "docs/promises.md", "docs/DECISIONS.md")
 
@@ -179,24 +186,33 @@ def functions(text):
         while end + 1 < len(lines) and lines[end] != f"{indent}}}" and not lines[end].endswith(";"):
             end += 1
         head = " ".join(lines[at : end + 1])
-        inner, depth, count, is_any = head[head.index("(") + 1 :], 0, 1, False
+        inner, depth, parameters = head[head.index("(") + 1 :], 0, [""]
         for char in inner:
             depth += {"(": 1, "[": 1, "<": 1, ")": -1, "]": -1, ">": -1}.get(char, 0)
             if depth < 0:
                 break
-            count += char == "," and depth == 0
-            is_any = is_any or not char.isspace()
+            if char == "," and depth == 0:
+                parameters.append("")
+            else:
+                parameters[-1] += char
         first = next((it for it in range(at, end + 1) if lines[it] in (f"{indent}{{",) or lines[it].endswith(" {")), end)
-        yield found[2], at + 1, count if is_any else 0, end - first - 1
+        yield found[2], at + 1, sum(bool(it.strip()) for it in parameters), end - first - 1
 
 
 def look_at_functions():
+    unused = set(MANY_PARAMETERS)
     for path in files("crates/*/src/**/*.rt"):
+        if crate_of(path).endswith("_tests"):
+            continue
         for name, line, count, length in functions(text_of(path)):
-            if length > 40 and not crate_of(path).endswith("_tests"):
+            if length > 40:
                 yield f"{short(path)}:{line}: {name} has {length} lines"
-            if count > 7 + 1 and not crate_of(path).endswith("_tests"):
-                yield f"{short(path)}:{line}: {name} has {count - 1} parameters"
+            if count > 7 and (crate_of(path), name) in MANY_PARAMETERS:
+                unused.discard((crate_of(path), name))
+            elif count > 7:
+                yield f"{short(path)}:{line}: {name} has {count} parameters"
+    for crate, name in sorted(unused):
+        yield f"bench/house.py: {name} of {crate} has no more than 7 parameters"
 
 
 def kinds_of(text):

@@ -1,6 +1,6 @@
 //! A recording that is played by workers, through the program's top call.
 
-use dp_app_runs::{outcome_over, words_of};
+use dp_app_runs::{Host, Resources, outcome_over, words_of};
 use dp_io::{MemSink, MemSource};
 use dp_keeper::{Rows, SureKeeper};
 use dp_wire::{Gate, MemWire};
@@ -73,16 +73,18 @@ fn gives_up<R: Threads + Wait + Sync + Abort>(rt: &R, alloc: Global, words: &str
     let mut diag = MemSink::new(alloc, 100, 100, Vec::new(alloc)).expect(rt, "memory");
     let wires: Vec<MemWire> = Vec::new(alloc);
     let keeper = SureKeeper::new(Rows::new(alloc));
-    let ran = outcome_over(
+    let host = Host {
         rt,
         alloc,
+        gate: &gate,
+    };
+    let ran = outcome_over(
+        host,
         &words,
         &mut input,
         &mut output,
         &mut diag,
-        wires,
-        keeper,
-        &gate,
+        Resources { wires, keeper },
     );
     assert_eq!(rt; ran.status, 0);
     check_picture(rt, output.as_slice());
