@@ -7,12 +7,12 @@ It looks at text alone and proves nothing, in a few seconds. It finds
 - a definition's name that stands in two crates which bench/doubled_names.txt doesn't list, and what
   stands in that list but isn't so any more;
 - a lemma that no other line cites, or only a wrong body, but for those of `UNCITED_LEMMAS`;
-- a sentence of README.md with over 25 words;
+- a sentence with over 25 words in a document that is written by hand, in a cell of a table too;
 - a file, crate or backquoted name in a document that isn't there, or not in the crate that it names;
 - a line of over 100 columns that the formatter could break;
 - a function of over 40 lines, or of over 7 parameters, that isn't a test's. Those of `MANY_PARAMETERS`
   may have more.
-The status is 1 where it finds anything."""
+The status is 1 if it finds anything."""
 import glob
 import os
 import re
@@ -45,6 +45,13 @@ UNCITED_LEMMAS = {
     ("dp_drill", "is-undo"),
     ("dp_drill", "is-up"),
 }
+# The documents that are written by hand.
+SENTENCES = (
+    "README.md", "CONTRIBUTING.md", "CHANGELOG.md", "docs/promises.md", "docs/protocol.md",
+    "docs/architecture.md", "docs/DECISIONS.md", "bench/RESULTS.md",
+)
+# A sentence ends with its mark, also where that stands in brackets or in bold.
+SENTENCE_END = r"(?:(?<=[.:?!])|(?<=[.:?!][)*\"])|(?<=[.:?!]\*\*))\s+"
 # Names that documents use for what isn't this repository's: of the toolchain, of Rust, of the shell.
 DOCUMENTS = ("README.md", "CONTRIBUTING.md", "docs/architecture.md", "docs/promises.md", "docs/DECISIONS.md")
 
@@ -125,12 +132,14 @@ def look_at_lemmas():
 
 
 def look_at_sentences():
-    text = re.sub(r"```.*?```|^    .*$|^\|.*$|^#.*$|^!\[.*$", "\n\n", text_of(f"{ROOT}/README.md"), flags=re.M | re.S)
-    for part in re.split(r"\n\s*\n|\n(?=[-\d])", text):
-        for sentence in re.split(r"(?<=[.:?!])\s+", " ".join(part.split())):
-            words = [it for it in sentence.split() if re.search(r"\w", it)]
-            if len(words) > 25:
-                yield f"README.md: {len(words)} words: {' '.join(words[:8])} .."
+    for name in SENTENCES:
+        text = re.sub(r"(?s:```.*?```)|^    .*$|^#.*$|^!\[.*$", "\n\n", text_of(f"{ROOT}/{name}"), flags=re.M)
+        text = re.sub(r"^\|.*$", lambda row: "\n\n" + row[0].strip("|").replace(" | ", "\n\n"), text, flags=re.M)
+        for part in re.split(r"\n\s*\n|\n(?=\s*(?:-|\d+\.) )", text):
+            for sentence in re.split(SENTENCE_END, " ".join(part.split())):
+                words = [it for it in sentence.split() if re.search(r"\w", it)]
+                if len(words) > 25:
+                    yield f"{name}: {len(words)} words: {' '.join(words[:8])} .."
 
 
 @cache

@@ -31,3 +31,8 @@ for load in "--clients 2 --messages 1000000" "--clients 64 --messages 1000000" \
   # shellcheck disable=SC2086
   run yardstick "$yardstick" -- $load
 done
+# 1,000 pings a second beside 63 painters who say nothing.
+for program in bin/drawpile "$yardstick"; do
+  printf '%s: ' "$(basename "$program")"
+  bench/pings.py "$program"
+done

@@ -1,8 +1,10 @@
-//! Tests of the program through its top call: links on the loopback, and a recording that is played
-//! by workers past a gate. Links in memory are in the rows of `dp_rows`.
+//! Tests of the program through its top call: links on the loopback, and pictures that workers
+//! draw past a gate. Links in memory are in the rows of `dp_rows`.
 #![tactic(auto)]
 
 #[cfg(test)]
-mod play;
+mod held;
+#[cfg(test)]
+mod pictures;
 #[cfg(test)]
 mod together;
