@@ -32,7 +32,7 @@ ghost use Rattle.dp_commands.specs.Kinds.{Reads};
 ghost use Rattle.dp_commands.specs.Runs.{run_of};
 ghost use Rattle.dp_commands.specs.Servers.{HasServed, HasBadRow};
 
-use dp_commands::{Ran, local_commands_are_runs, run_words, say};
+use dp_commands::{Host, Ran, Resources, local_commands_are_runs, run_words, say};
 use dp_epochs::{Journal, Shut};
 use dp_io::{Sink, Source};
 use dp_joining::{each_outcome, one_outcome};
@@ -282,7 +282,13 @@ pub fn drawpile<
         shut,
         reports,
     } = run_words(
-        rt, alloc, words, input, output, wires, keeper, gate, draws, tiles,
+        Host { rt, alloc, gate },
+        words,
+        input,
+        output,
+        Resources { wires, keeper },
+        draws,
+        tiles,
     );
     let status = say(diag, &ending);
     Outcome {

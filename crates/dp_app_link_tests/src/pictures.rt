@@ -1,7 +1,7 @@
 //! Pictures that workers draw, through the program's top call.
 
 use crate::held::HeldGate;
-use dp_app_runs::{outcome_over, words_of};
+use dp_app_runs::{Host, Resources, outcome_over, words_of};
 use dp_io::{MemSink, MemSource};
 use dp_keeper::{Rows, SureKeeper};
 use dp_wire::MemWire;
@@ -54,15 +54,12 @@ fn printed<R: Threads + Wait + Sync + Abort>(
     let wires: Vec<MemWire> = Vec::new(alloc);
     let keeper = SureKeeper::new(Rows::new(alloc));
     let ran = outcome_over(
-        rt,
-        alloc,
+        Host { rt, alloc, gate },
         &words,
         &mut input,
         &mut output,
         &mut diag,
-        wires,
-        keeper,
-        gate,
+        Resources { wires, keeper },
     );
     assert_eq!(rt; ran.status, 0);
     output

@@ -3,4 +3,5 @@
 
 mod running;
 
+pub use dp_commands::{Host, Resources};
 pub use running::{Faults, NO_FAULTS, Ran, outcome_of, outcome_over, run, words_of};

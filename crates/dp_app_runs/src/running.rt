@@ -3,6 +3,7 @@
 ghost use Rattle.std.specs.Prelude.{◌≡◌, ◌<◌};
 
 use dp_app::{Outcome, drawpile};
+use dp_commands::{Host, Resources};
 use dp_io::{MemSink, MemSource, Sink, Source};
 use dp_keeper::{Keeper, Rows, SureKeeper};
 use dp_steps::Steps;
@@ -97,8 +98,15 @@ pub fn outcome_of<R: Threads + Wait + Sync, I: Source, O: Sink, E: Sink, W: Wire
     wires: Vec<W>,
 ) -> Outcome<W, SureKeeper> {
     let keeper = SureKeeper::new(Rows::new(alloc));
+    let gate = &OpenGate;
+    let host = Host { rt, alloc, gate };
     outcome_over(
-        rt, alloc, words, input, output, diag, wires, keeper, &OpenGate,
+        host,
+        words,
+        input,
+        output,
+        diag,
+        Resources { wires, keeper },
     )
 }
 
@@ -112,17 +120,14 @@ pub fn outcome_over<
     K: Keeper + Send,
     G: Gate,
 >(
-    rt: &R,
-    alloc: Global,
+    host: Host<'_, R, G>,
     words: &[String],
     input: &mut I,
     output: &mut O,
     diag: &mut E,
-    wires: Vec<W>,
-    keeper: K,
-    gate: &G,
+    resources: Resources<W, K>,
 ) -> Outcome<W, K> {
-    branded(rt, alloc, words, input, output, diag, wires, keeper, gate)
+    branded(host, words, input, output, diag, resources)
 }
 
 /// Runs the program with new counters.
@@ -135,29 +140,26 @@ fn branded<
     K: Keeper + Send,
     G: Gate,
 >(
-    rt: &R,
-    alloc: Global,
+    host: Host<'_, R, G>,
     words: &[String],
     input: &mut I,
     output: &mut O,
     diag: &mut E,
-    wires: Vec<W>,
-    keeper: K,
-    gate: &G,
+    resources: Resources<W, K>,
 ) -> Outcome<W, K> {
+    let blanks = Blanks {
+        draws: Blank::new(1),
+        tiles: Blank::new(1),
+    };
     counted::<_, _, _, _, _, _, _, Brand, Brand>(
-        rt,
-        alloc,
-        words,
-        input,
-        output,
-        diag,
-        wires,
-        keeper,
-        gate,
-        Blank::new(1),
-        Blank::new(1),
+        host, words, input, output, diag, resources, blanks,
     )
+}
+
+/// What the counters of draws and of tiles are made of.
+struct Blanks {
+    draws: Blank,
+    tiles: Blank,
 }
 
 /// Runs the program with counters over these blanks.
@@ -172,21 +174,22 @@ fn counted<
     D: Ledger,
     T: Ledger,
 >(
-    rt: &R,
-    alloc: Global,
+    host: Host<'_, R, G>,
     words: &[String],
     input: &mut I,
     output: &mut O,
     diag: &mut E,
-    wires: Vec<W>,
-    keeper: K,
-    gate: &G,
-    draws: Blank,
-    tiles: Blank,
+    resources: Resources<W, K>,
+    blanks: Blanks,
 ) -> Outcome<W, K>
-    requires draws { (draws.name ≡ D.name) × (draws.parts ≡ D.parts) × (0 < draws.parts) }
-    requires tiles { (tiles.name ≡ T.name) × (tiles.parts ≡ T.parts) × (0 < tiles.parts) }
+    requires draws { (blanks.draws.name ≡ D.name) × (blanks.draws.parts ≡ D.parts)
+        × (0 < blanks.draws.parts) }
+    requires tiles { (blanks.tiles.name ≡ T.name) × (blanks.tiles.parts ≡ T.parts)
+        × (0 < blanks.tiles.parts) }
 {
+    let Host { rt, alloc, gate } = host;
+    let Resources { wires, keeper } = resources;
+    let Blanks { draws, tiles } = blanks;
     let mut draws = Steps::<D>::new(draws);
     let mut tiles = Steps::<T>::new(tiles);
     drawpile(

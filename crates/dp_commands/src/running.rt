@@ -13,6 +13,7 @@ ghost use Rattle.dp_commands.specs.Kinds.{EndsCommand, EndsWords};
 ghost use Rattle.dp_commands.specs.Runs.{run_of};
 
 use crate::ending::Ending;
+use crate::host::{Host, Resources};
 use crate::server::run_server;
 use dp_canvas::Workers;
 use dp_drill::{Drill, run_drill};
@@ -46,12 +47,13 @@ pub struct Ran<W, K> {
 
 impl<W, K> Ran<W, K> {
     /// There was no server.
-    pub(crate) fn without(alloc: Global, ending: Ending, wires: Vec<W>, keeper: K) -> Ran<W, K>
+    pub(crate) fn without(alloc: Global, ending: Ending, resources: Resources<W, K>) -> Ran<W, K>
         ensures ending { result.ending ≡ ending }
-        ensures wires { result.wires ≡ wires }
-        ensures keeper { result.keeper ≡ keeper }
+        ensures wires { result.wires ≡ resources.wires }
+        ensures keeper { result.keeper ≡ resources.keeper }
         ensures nothing { KeepsNothing (kept result.journal result.shut result.reports) }
     {
+        let Resources { wires, keeper } = resources;
         Ran {
             ending,
             wires,
@@ -74,14 +76,11 @@ pub fn run_words<
     D: Ledger,
     T: Ledger,
 >(
-    rt: &R,
-    alloc: Global,
+    host: Host<'_, R, G>,
     words: &[String],
     input: &mut I,
     output: &mut O,
-    wires: Vec<W>,
-    keeper: K,
-    gate: &G,
+    resources: Resources<W, K>,
     draws: &mut Steps<D>,
     tiles: &mut Steps<T>,
 ) -> Ran<W, K>
@@ -90,19 +89,17 @@ pub fn run_words<
         words.now
         (effects (streams I.left I.faults O.held O.faults input.old input.new output.old output.new
         (counters draws.old draws.new tiles.old tiles.new))
-        wires.items result.wires.items
-        (stores K.held K.put_faults K.read_faults keeper result.keeper)
+        resources.wires.items result.wires.items
+        (stores K.held K.put_faults K.read_faults resources.keeper result.keeper)
         (kept result.journal result.shut result.reports)) result.ending }
-    ensures keeper { ¬ HasWires words.now wires.items → result.keeper ≡ keeper }
+    ensures keeper { ¬ HasWires words.now resources.wires.items → result.keeper ≡ resources.keeper }
     ensures input_later { I.faults input.old ≤ I.faults input.new }
     ensures output_later { O.faults output.old ≤ O.faults output.new }
 {
-    match read_words(alloc, words) {
-        Ok(Some(command)) => run_command(
-            rt, alloc, &command, input, output, wires, keeper, gate, draws, tiles,
-        ),
-        Ok(None) => Ran::without(alloc, Ending::Usage, wires, keeper),
-        Err(AllocError) => Ran::without(alloc, Ending::NoWords, wires, keeper),
+    match read_words(host.alloc, words) {
+        Ok(Some(command)) => run_command(host, &command, input, output, resources, draws, tiles),
+        Ok(None) => Ran::without(host.alloc, Ending::Usage, resources),
+        Err(AllocError) => Ran::without(host.alloc, Ending::NoWords, resources),
     }
 }
 
@@ -117,14 +114,11 @@ fn run_command<
     D: Ledger,
     T: Ledger,
 >(
-    rt: &R,
-    alloc: Global,
+    host: Host<'_, R, G>,
     command: &CommandLine,
     input: &mut I,
     output: &mut O,
-    wires: Vec<W>,
-    keeper: K,
-    gate: &G,
+    resources: Resources<W, K>,
     draws: &mut Steps<D>,
     tiles: &mut Steps<T>,
 ) -> Ran<W, K>
@@ -134,40 +128,42 @@ fn run_command<
         command.now
         (effects (streams I.left I.faults O.held O.faults input.old input.new output.old output.new
         (counters draws.old draws.new tiles.old tiles.new))
-        wires.items result.wires.items
-        (stores K.held K.put_faults K.read_faults keeper result.keeper)
+        resources.wires.items result.wires.items
+        (stores K.held K.put_faults K.read_faults resources.keeper result.keeper)
         (kept result.journal result.shut result.reports)) result.ending }
     ensures keeper { ((addr : List ℕ) (conns : Option ℕ) (service : Service)
-        → command.now ≢ Listen addr (length wires.items) conns service)
-        → result.keeper ≡ keeper }
+        → command.now ≢ Listen addr (length resources.wires.items) conns service)
+        → result.keeper ≡ resources.keeper }
     ensures input_later { I.faults input.old ≤ I.faults input.new }
     ensures output_later { O.faults output.old ≤ O.faults output.new }
 {
     match command {
         CommandLine::Local(command) => {
-            let end = run_local(rt, alloc, command, input, output, gate, draws, tiles);
-            Ran::without(alloc, Ending::Run(end), wires, keeper)
+            let end = run_local(host, command, input, output, draws, tiles);
+            Ran::without(host.alloc, Ending::Run(end), resources)
         }
         CommandLine::Join { addr: _, name } => {
-            run_link(alloc, name, input, output, wires, keeper, draws, tiles)
+            run_link(host.alloc, name, input, output, resources, draws, tiles)
         }
         CommandLine::Listen {
             addr: _,
             workers,
             conns,
             service: _,
-        } => run_server(rt, alloc, wires, keeper, *workers, *conns, gate),
+        } => {
+            let Host { rt, alloc, gate } = host;
+            let Resources { wires, keeper } = resources;
+            run_server(rt, alloc, wires, keeper, *workers, *conns, gate)
+        }
     }
 }
 
 /// Runs a command on the input and the output alone.
 fn run_local<R: Threads + Sync, I: Source, O: Sink, G: Gate, D: Ledger, T: Ledger>(
-    rt: &R,
-    alloc: Global,
+    host: Host<'_, R, G>,
     command: &LocalCommand,
     input: &mut I,
     output: &mut O,
-    gate: &G,
     draws: &mut Steps<D>,
     tiles: &mut Steps<T>,
 ) -> RunEnd
@@ -179,6 +175,7 @@ fn run_local<R: Threads + Sync, I: Source, O: Sink, G: Gate, D: Ledger, T: Ledge
     ensures input_later { I.faults input.old ≤ I.faults input.new }
     ensures output_later { O.faults output.old ≤ O.faults output.new }
 {
+    let Host { rt, alloc, gate } = host;
     match command {
         LocalCommand::Replay => run_replay(alloc, input, output, draws, tiles),
         LocalCommand::World => run_world(alloc, input, output, draws, tiles),
@@ -211,8 +208,7 @@ fn run_link<I: Source, O: Sink, W: Wire, K: Keeper, D: Ledger, T: Ledger>(
     name: &Text,
     input: &mut I,
     output: &mut O,
-    wires: Vec<W>,
-    keeper: K,
+    resources: Resources<W, K>,
     draws: &mut Steps<D>,
     tiles: &mut Steps<T>,
 ) -> Ran<W, K>
@@ -222,16 +218,16 @@ fn run_link<I: Source, O: Sink, W: Wire, K: Keeper, D: Ledger, T: Ledger>(
         (Join addr name.now)
         (effects (streams I.left I.faults O.held O.faults input.old input.new output.old output.new
         (counters draws.old draws.new tiles.old tiles.new))
-        wires.items result.wires.items
-        (stores K.held K.put_faults K.read_faults keeper result.keeper)
+        resources.wires.items result.wires.items
+        (stores K.held K.put_faults K.read_faults resources.keeper result.keeper)
         (kept result.journal result.shut result.reports)) result.ending }
-    ensures keeper { result.keeper ≡ keeper }
+    ensures keeper { result.keeper ≡ resources.keeper }
     ensures input_later { I.faults input.old ≤ I.faults input.new }
     ensures output_later { O.faults output.old ≤ O.faults output.new }
 {
-    let mut wires = wires;
+    let Resources { mut wires, keeper } = resources;
     let ending = join_first(alloc, name, input, output, &mut wires, draws, tiles);
-    Ran::without(alloc, ending, wires, keeper)
+    Ran::without(alloc, ending, Resources { wires, keeper })
 }
 
 /// Joins a session over the first of the wires, if there is one.

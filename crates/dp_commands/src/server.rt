@@ -8,6 +8,7 @@ ghost use Rattle.dp_commands.specs.Kinds.{EndsCommand};
 ghost use Rattle.dp_commands.specs.Servers.{end_of_fault, server_end};
 
 use crate::ending::Ending;
+use crate::host::Resources;
 use crate::running::Ran;
 use dp_keeper::Keeper;
 use dp_lines::RunEnd;
@@ -39,12 +40,12 @@ pub(crate) fn run_server<R: Threads + Wait + Sync, W: Wire + Send, K: Keeper + S
     ensures keeper { length wires.items ≢ workers → result.keeper ≡ keeper }
 {
     if wires.len() != workers as usize {
-        return Ran::without(alloc, Ending::NoLink, wires, keeper);
+        return Ran::without(alloc, Ending::NoLink, Resources { wires, keeper });
     }
     let session = match Session::resume(alloc, keeper) {
         Ok(session) => session,
         Err(ResumeError { keeper, why }) => {
-            return Ran::without(alloc, end_of_fault(why), wires, keeper);
+            return Ran::without(alloc, end_of_fault(why), Resources { wires, keeper });
         }
     };
     let Served {

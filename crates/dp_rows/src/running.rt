@@ -1,7 +1,7 @@
 //! Runs of rows over memory.
 
 use dp_app::Outcome;
-use dp_app_runs::outcome_over;
+use dp_app_runs::{Host, Resources, outcome_over};
 use dp_io::MemSink;
 use dp_keeper::MemKeeper;
 use dp_row_texts::{
@@ -45,17 +45,21 @@ pub fn answer_to<R: Threads + Wait + Sync>(
         piece,
         calls_of(alloc, row, Object::Diag, more)?,
     )?;
+    let keeper = store_of(alloc, row, more)?;
+    let resources = Resources { wires, keeper };
     let gate = RowGate::new();
-    let outcome = outcome_over(
+    let host = Host {
         rt,
         alloc,
+        gate: &gate,
+    };
+    let outcome = outcome_over(
+        host,
         &row.words,
         &mut input,
         &mut output,
         &mut diag,
-        wires,
-        store_of(alloc, row, more)?,
-        &gate,
+        resources,
     );
     Ok(Answer {
         status: outcome.status,
