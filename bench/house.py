@@ -6,7 +6,7 @@ bench/house.py --lines    counts the lines of code, contracts, definitions and p
 It looks at text alone and proves nothing, in a few seconds. It finds
 - a definition's name that stands in two crates which bench/doubled_names.txt doesn't list, and what
   stands in that list but isn't so any more;
-- a lemma that no other line cites, or only a wrong body, but for those of `UNCITED_LEMMAS`;
+- a lemma that no other line cites, or only a wrong body;
 - a sentence with over 25 words in a document that is written by hand, in a cell of a table too;
 - a file, crate or backquoted name in a document that isn't there, or not in the crate that it names;
 - a line of over 100 columns that the formatter could break;
@@ -32,18 +32,6 @@ MANY_PARAMETERS = {
     # The top call. Each thing that the program may touch is a parameter of its own, so that its
     # clauses name it: the words, three streams, the wires, the store, the gate and two counters.
     ("dp_app", "drawpile"),
-}
-# Lemmas that nothing cites, by crate and name. No tactic finds them either: it uses the lemmas that it is
-# given. They go at the next change of their crate's proofs, since an edit of a proof file has the crate
-# and all above it proved again. With those of dp_drill go the private ones that they alone cite.
-UNCITED_LEMMAS = {
-    ("dp_canvas", "are_painting"),
-    ("dp_drill", "is-dab"),
-    ("dp_drill", "is-point"),
-    ("dp_drill", "is-square"),
-    ("dp_drill", "is-take"),
-    ("dp_drill", "is-undo"),
-    ("dp_drill", "is-up"),
 }
 # The documents that are written by hand.
 SENTENCES = (
@@ -121,14 +109,9 @@ def look_at_lemmas():
             continue
         for name, words in blocks_of(text_of(path)):
             homes.setdefault(name, [path, 0])[1] += words.count(name)
-    unused = set(UNCITED_LEMMAS)
     for name, (path, own) in sorted(homes.items()):
-        if cited[name] <= own and (crate_of(path), name) in UNCITED_LEMMAS:
-            unused.discard((crate_of(path), name))
-        elif cited[name] <= own:
+        if cited[name] <= own:
             yield f"{short(path)}: {'only wrong bodies cite' if name in wrong else 'nothing cites'} {name}"
-    for crate, name in sorted(unused):
-        yield f"bench/house.py: {name} of {crate} is no lemma that nothing cites"
 
 
 def look_at_sentences():

@@ -8,7 +8,7 @@ use Rattle.std.proofs.lemmas.List.Sums.{fold-append, sum_by-append, sum_by-take-
 use Rattle.dp_blend.specs.Color.{Channels, IsPixel}
 use Rattle.dp_msg_draw.specs.declared.draw.Draw.{Draw}
 use Rattle.dp_layers.specs.Rows.{content_of}
-use Rattle.dp_paint.specs.Painting.{IsPainting, pixels_after_all}
+use Rattle.dp_paint.specs.Painting.{pixels_after_all}
 use Rattle.dp_pixels.specs.Feet.{reach}
 use Rattle.dp_plain.specs.Board.{Board, HasPixels}
 use Rattle.dp_plain.specs.Commands.{draw, draw_all, painted_layer}
@@ -22,9 +22,6 @@ pub are_named : (layer : ℕ) (run : List Draw) → All (PaintsOn layer) run
     → All (λ c. painted_layer c ≡ Some layer) run
 are_named layer run on =
     All-weaker (PaintsOn layer) (λ c. painted_layer c ≡ Some layer) (λ c is. is.named) run on
-
-pub are_painting : (layer : ℕ) (run : List Draw) → All (PaintsOn layer) run → All IsPainting run
-are_painting layer run on = All-weaker (PaintsOn layer) IsPainting (λ c is. is.alone) run on
 
 -- the pixels of a layer that was found are pixels
 pub found_pixels : (board : Board) (id : ℕ) (pixels : List Channels) → HasPixels board
