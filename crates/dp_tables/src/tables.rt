@@ -115,48 +115,6 @@ fn next_open(connections: &[Connection], after: u32) -> Option<u32>
     None
 }
 
-/// Makes memory ready for one event, one closing and one connection.
-fn reserve_events(
-    journal: &mut Vec<Event>,
-    shut: &mut Vec<ShutAt>,
-    connections: &mut Vec<Connection>,
-    quiet: &mut Vec<bool>,
-) -> Result<(), AllocError>
-    ensures journal { journal.new.items ≡ journal.old.items }
-    ensures shut { shut.new.items ≡ shut.old.items }
-    ensures connections { connections.new.items ≡ connections.old.items }
-    ensures quiet { quiet.new.items ≡ quiet.old.items }
-    ensures journal_room { OnOk result (vec_len journal.new < vec_capacity journal.new) }
-    ensures shut_room { OnOk result (vec_len shut.new < vec_capacity shut.new) }
-    ensures connections_room { OnOk result (vec_len connections.new
-        < vec_capacity connections.new) }
-    ensures quiet_room { OnOk result (vec_len quiet.new < vec_capacity quiet.new) }
-{
-    journal.reserve(1)?;
-    shut.reserve(1)?;
-    connections.reserve(1)?;
-    quiet.reserve(1)
-}
-
-/// Makes memory ready for one part of a reset and two entries.
-fn reserve_entries(
-    parts: &mut Vec<u32>,
-    live: &mut Vec<HistoryItem>,
-    rights: &mut Rights,
-) -> Result<(), AllocError>
-    ensures parts { parts.new.items ≡ parts.old.items }
-    ensures live { live.new.items ≡ live.old.items }
-    ensures stands { (history : List Piece) → StandsFor rights.old history
-        → StandsFor rights.new history }
-    ensures parts_room { OnOk result (vec_len parts.new < vec_capacity parts.new) }
-    ensures live_room { OnOk result (vec_len live.new + 2 ≤ vec_capacity live.new) }
-    ensures rights_room { OnOk result (2 ≤ rights.new.room) }
-{
-    parts.reserve(1)?;
-    live.reserve(2)?;
-    rights.reserve(2)
-}
-
 /// Makes the memory ready that any one event needs.
 fn reserve(
     journal: &mut Vec<Event>,
@@ -184,8 +142,13 @@ fn reserve(
     ensures live_room { OnOk result (vec_len live.new + 2 ≤ vec_capacity live.new) }
     ensures rights_room { OnOk result (2 ≤ rights.new.room) }
 {
-    reserve_events(journal, shut, connections, quiet)?;
-    reserve_entries(parts, live, rights)
+    journal.reserve(1)?;
+    shut.reserve(1)?;
+    connections.reserve(1)?;
+    quiet.reserve(1)?;
+    parts.reserve(1)?;
+    live.reserve(2)?;
+    rights.reserve(2)
 }
 
 impl Tables {
