@@ -95,8 +95,6 @@ pub(crate) struct Crew<'a, R, K: Keeper, G> {
     pub(crate) rt: &'a R,
     pub(crate) alloc: Global,
     pub(crate) hall: &'a Hall<Session<K>>,
-    /// How many links each may serve: 2^32 - 1 if no number is given.
-    pub(crate) conns: Option<u32>,
     pub(crate) gate: &'a G,
 }
 
@@ -104,6 +102,7 @@ pub(crate) struct Crew<'a, R, K: Keeper, G> {
 pub(crate) fn run_jobs<W: Wire + Send, K: Keeper + Send, G: Gate, R: Threads + Wait + Sync>(
     crew: &Crew<'_, R, K, G>,
     jobs: &mut [Job<W, K>],
+    conns: Option<u32>,
 )
     requires of { All (λ job. IfSome job.seat (IsOf crew.now.hall.now)) jobs.old }
     requires start { ShutBefore crew.now.hall.now.start }
@@ -111,7 +110,7 @@ pub(crate) fn run_jobs<W: Wire + Send, K: Keeper + Send, G: Gate, R: Threads + W
       links = W.links;
       faults = W.faults;
       link = link_seen W.Rx.left W.Rx.faults W.Tx.held W.Tx.faults;
-    }) crew.now.hall.now (most_links crew.now.conns) jobs.old jobs.new }
+    }) crew.now.hall.now (most_links conns) jobs.old jobs.new }
 {
     let threads = jobs.len();
     if threads == 0 {
@@ -128,9 +127,8 @@ pub(crate) fn run_jobs<W: Wire + Send, K: Keeper + Send, G: Gate, R: Threads + W
               links = W.links;
               faults = W.faults;
               link = link_seen W.Rx.left W.Rx.faults W.Tx.held W.Tx.faults;
-            }) crew.entry.now.hall.now (most_links crew.entry.now.conns) job.entry.now
-                job.exit.now }
-        { run_job(crew, job) },
+            }) crew.entry.now.hall.now (most_links conns) job.entry.now job.exit.now }
+        { run_job(crew, job, conns) },
     );
 }
 
@@ -138,6 +136,7 @@ pub(crate) fn run_jobs<W: Wire + Send, K: Keeper + Send, G: Gate, R: Threads + W
 fn run_job<W: Wire, K: Keeper + Send, G: Gate, R: Threads + Wait + Sync>(
     crew: &Crew<'_, R, K, G>,
     job: &mut Job<W, K>,
+    conns: Option<u32>,
 )
     requires of { IfSome job.old.seat (IsOf crew.now.hall.now) }
     requires start { ShutBefore crew.now.hall.now.start }
@@ -145,7 +144,7 @@ fn run_job<W: Wire, K: Keeper + Send, G: Gate, R: Threads + Wait + Sync>(
       links = W.links;
       faults = W.faults;
       link = link_seen W.Rx.left W.Rx.faults W.Tx.held W.Tx.faults;
-    }) crew.now.hall.now (most_links crew.now.conns) job.old job.new }
+    }) crew.now.hall.now (most_links conns) job.old job.new }
 {
     let Some(seat) = &mut job.seat else {
         return;
@@ -157,5 +156,5 @@ fn run_job<W: Wire, K: Keeper + Send, G: Gate, R: Threads + Wait + Sync>(
         who: job.who,
         gate: crew.gate,
     };
-    job.worked = run_worker(&worker, seat, &mut job.wire, crew.conns);
+    job.worked = run_worker(&worker, seat, &mut job.wire, conns);
 }

@@ -22,7 +22,7 @@ pub returns : goal.returns
 returns g c =
     let olds = c.args.jobs.now in
     let news = c.for_each_mut.new.s in
-    let most = most_links c.args.crew.now.conns in
+    let most = most_links c.args.conns in
     ran-each _ c.args.crew.now.hall.now most olds news c.for_each_mut.auto.s
     (λ i d inside.
     let job = (c.for_each_mut.ensures i d inside).1 in
