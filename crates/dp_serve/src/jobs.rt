@@ -116,19 +116,32 @@ pub(crate) fn run_jobs<W: Wire + Send, K: Keeper + Send, G: Gate, R: Threads + W
     if threads == 0 {
         return;
     }
+    let Crew {
+        rt,
+        alloc,
+        hall,
+        gate,
+    } = *crew;
     for_each_mut(
-        crew.rt,
+        rt,
         jobs,
         threads,
         &|_, job: &mut Job<W, K>|
-            requires { IfSome job.now.seat (IsOf crew.now.hall.now)
-                × ShutBefore crew.now.hall.now.start }
+            requires { IfSome job.now.seat (IsOf hall.now) × ShutBefore hall.now.start }
             ensures { RanJob (record {
               links = W.links;
               faults = W.faults;
               link = link_seen W.Rx.left W.Rx.faults W.Tx.held W.Tx.faults;
-            }) crew.entry.now.hall.now (most_links conns) job.entry.now job.exit.now }
-        { run_job(crew, job, conns) },
+            }) hall.entry.now (most_links conns) job.entry.now job.exit.now }
+        {
+            let crew = Crew {
+                rt,
+                alloc,
+                hall,
+                gate,
+            };
+            run_job(&crew, job, conns)
+        },
     );
 }
 
