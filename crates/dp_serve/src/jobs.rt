@@ -36,6 +36,16 @@ impl<W, K: Keeper> Model for Job<W, K> {
     ghost view = { λ j. record { who = j.who; wire = j.wire; seat = j.seat; worked = j.worked } };
 }
 
+/// What the workers of a server share: their threads and memory, the hall of the session, and the
+/// gate that they pass.
+#[derive(Drop)]
+pub(crate) struct Crew<'a, R, K: Keeper, G> {
+    pub(crate) rt: &'a R,
+    pub(crate) alloc: Global,
+    pub(crate) hall: &'a Hall<Session<K>>,
+    pub(crate) gate: &'a G,
+}
+
 /// Makes a job for each wire, the last wire's first, with a seat of its own. No wire is left.
 pub(crate) fn make_jobs<W, K: Keeper>(
     alloc: Global,
@@ -88,74 +98,68 @@ fn make_job<W, K: Keeper>(
     }
 }
 
-/// What the workers of a server share: their threads and memory, the hall of the session, and the
-/// gate that they pass.
-#[derive(Drop)]
-pub(crate) struct Crew<'a, R, K: Keeper, G> {
-    pub(crate) rt: &'a R,
-    pub(crate) alloc: Global,
-    pub(crate) hall: &'a Hall<Session<K>>,
-    /// How many links each may serve: 2^32 - 1 if no number is given.
-    pub(crate) conns: Option<u32>,
-    pub(crate) gate: &'a G,
-}
-
 /// Runs the workers of the jobs, all at the same time if threads can be made.
 pub(crate) fn run_jobs<W: Wire + Send, K: Keeper + Send, G: Gate, R: Threads + Wait + Sync>(
-    crew: &Crew<'_, R, K, G>,
+    rt: &R,
+    alloc: Global,
+    hall: &Hall<Session<K>>,
     jobs: &mut [Job<W, K>],
+    conns: Option<u32>,
+    gate: &G,
 )
-    requires of { All (λ job. IfSome job.seat (IsOf crew.now.hall.now)) jobs.old }
-    requires start { ShutBefore crew.now.hall.now.start }
+    requires of { All (λ job. IfSome job.seat (IsOf hall.now)) jobs.old }
+    requires start { ShutBefore hall.now.start }
     ensures { RanJobs (record {
       links = W.links;
       faults = W.faults;
       link = link_seen W.Rx.left W.Rx.faults W.Tx.held W.Tx.faults;
-    }) crew.now.hall.now (most_links crew.now.conns) jobs.old jobs.new }
+    }) hall.now (most_links conns) jobs.old jobs.new }
 {
     let threads = jobs.len();
     if threads == 0 {
         return;
     }
     for_each_mut(
-        crew.rt,
+        rt,
         jobs,
         threads,
         &|_, job: &mut Job<W, K>|
-            requires { IfSome job.now.seat (IsOf crew.now.hall.now)
-                × ShutBefore crew.now.hall.now.start }
+            requires { IfSome job.now.seat (IsOf hall.now) × ShutBefore hall.now.start }
             ensures { RanJob (record {
               links = W.links;
               faults = W.faults;
               link = link_seen W.Rx.left W.Rx.faults W.Tx.held W.Tx.faults;
-            }) crew.entry.now.hall.now (most_links crew.entry.now.conns) job.entry.now
-                job.exit.now }
-        { run_job(crew, job) },
+            }) hall.entry.now (most_links conns) job.entry.now job.exit.now }
+        { run_job(rt, alloc, hall, job, conns, gate) },
     );
 }
 
 /// Runs the worker of a job.
 fn run_job<W: Wire, K: Keeper + Send, G: Gate, R: Threads + Wait + Sync>(
-    crew: &Crew<'_, R, K, G>,
+    rt: &R,
+    alloc: Global,
+    hall: &Hall<Session<K>>,
     job: &mut Job<W, K>,
+    conns: Option<u32>,
+    gate: &G,
 )
-    requires of { IfSome job.old.seat (IsOf crew.now.hall.now) }
-    requires start { ShutBefore crew.now.hall.now.start }
+    requires of { IfSome job.old.seat (IsOf hall.now) }
+    requires start { ShutBefore hall.now.start }
     ensures { RanJob (record {
       links = W.links;
       faults = W.faults;
       link = link_seen W.Rx.left W.Rx.faults W.Tx.held W.Tx.faults;
-    }) crew.now.hall.now (most_links crew.now.conns) job.old job.new }
+    }) hall.now (most_links conns) job.old job.new }
 {
     let Some(seat) = &mut job.seat else {
         return;
     };
     let worker = Worker {
-        rt: crew.rt,
-        alloc: crew.alloc,
-        hall: crew.hall,
+        rt,
+        alloc,
+        hall,
         who: job.who,
-        gate: crew.gate,
+        gate,
     };
-    job.worked = run_worker(&worker, seat, &mut job.wire, crew.conns);
+    job.worked = run_worker(&worker, seat, &mut job.wire, conns);
 }

@@ -152,10 +152,9 @@ fn serve_wires<W: Wire + Send, K: Keeper + Send, G: Gate, R: Threads + Wait + Sy
                 rt,
                 alloc,
                 hall: &hall,
-                conns,
                 gate,
             };
-            let flags = run_all(&crew, &mut seat, &mut wires, jobs, &mut lists);
+            let flags = run_all(&crew, &mut seat, &mut wires, jobs, &mut lists, conns);
             finish(hall, seat, wires, lists, flags)
         }
         Err(HallError { machine }) => {
@@ -173,6 +172,7 @@ fn run_all<W: Wire + Send, K: Keeper + Send, G: Gate, R: Threads + Wait + Sync>(
     wires: &mut Vec<W>,
     jobs: Vec<Job<W, K>>,
     lists: &mut Vec<Vec<LinkReport>>,
+    conns: Option<u32>,
 ) -> Flags
     requires of { IsOf crew.now.hall.now seat.old }
     requires first { IsFirst seat.old.view }
@@ -186,14 +186,14 @@ fn run_all<W: Wire + Send, K: Keeper + Send, G: Gate, R: Threads + Wait + Sync>(
       links = W.links;
       faults = W.faults;
       link = link_seen W.Rx.left W.Rx.faults W.Tx.held W.Tx.faults;
-    }) crew.now.hall.now.start (most_links crew.now.conns) seat.new.view [] wires.old.items
+    }) crew.now.hall.now.start (most_links conns) seat.new.view [] wires.old.items
         wires.new.items (all_reports lists.new.items) result }
 {
     // Read, so that contracts know its range.
-    let _most = crew.conns.unwrap_or(u32::MAX);
+    let _most = conns.unwrap_or(u32::MAX);
     let mut jobs = jobs;
     make_jobs(crew.alloc, crew.hall, seat, wires, &mut jobs);
-    run_jobs(crew, &mut jobs);
+    run_jobs(crew.rt, crew.alloc, crew.hall, &mut jobs, conns, crew.gate);
     let flags = gather(crew.hall, seat, &mut jobs, wires, lists);
     jobs.destroy_empty();
     flags

@@ -22,9 +22,9 @@ pub returns : goal.returns
 returns g c =
     let olds = c.args.jobs.now in
     let news = c.for_each_mut.new.s in
-    let most = most_links c.args.crew.now.conns in
-    ran-each _ c.args.crew.now.hall.now most olds news c.for_each_mut.auto.s
+    let most = most_links c.args.conns in
+    ran-each _ c.args.hall.now most olds news c.for_each_mut.auto.s
     (λ i d inside.
     let job = (c.for_each_mut.ensures i d inside).1 in
-    ran-at _ c.args.crew.now.hall.now most job.argument.now job.after_call.now (get_or olds i d)
+    ran-at _ c.args.hall.now most job.argument.now job.after_call.now (get_or olds i d)
     (get_or news i d) job.argument_is job.left job.call)

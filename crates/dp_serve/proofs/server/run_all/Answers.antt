@@ -40,7 +40,7 @@ returns-clause-gathers g c =
     (c.run_jobs.auto.jobs ∙ c.deref_mut.ensures.len) in
     c.gather-flags.ensures.gathers c.args.seat.now.view c.args.wires.now.items
     c.make_jobs.new.jobs.items _ c.requires.first
-    (most-small c.args.crew.now.conns c.unwrap_or-most.result c.unwrap_or-most.type_inv
+    (most-small c.args.conns c.unwrap_or-most.result c.unwrap_or-most.type_inv
     c.unwrap_or-most.ensures) c.make_jobs.ensures.made
     (ran-same _ c.args.crew.now.hall.now _ c.deref_mut.result.now c.run_jobs.new.jobs
     c.make_jobs.new.jobs.items
