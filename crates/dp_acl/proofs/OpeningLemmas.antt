@@ -195,8 +195,8 @@ module _ (history : List Entry) (present : List ℕ) (user : ℕ) (rise : RiseFr
         option_or-none (option_map rule_in_order (rule_of history layer)),
       )
 
-  -- what is found of the user after the opening is what was found before it, but that the ids of
-  -- the layer's rule stand in order
+  -- What is found of the user after the opening is what was found before it. Only the ids of the
+  -- layer's rule are put in order.
   look-opening : (epoch : ℕ) (commands : List Draw) (kept : List Entry) (layer : ℕ) → GoOver kept
       → layer < 65536
       → look (opening epoch history present commands kept) user layer

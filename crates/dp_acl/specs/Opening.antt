@@ -52,7 +52,7 @@ carried_entries history present commands kept =
     ++ map command_entry commands
     ++ kept
 
--- The history that the epoch of this number opens with, after the history of the one before, where
+-- The history that the epoch of this number opens with, after the history of the one before, if
 -- these users are present.
 abbrev pub opening : ℕ → List Entry → List ℕ → List Draw → List Entry → List Entry
 opening epoch history present commands kept =

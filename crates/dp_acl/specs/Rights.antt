@@ -84,8 +84,9 @@ abbrev pub is_open_to : List ℕ → ℕ → Bool
 is_open_to [] user = true
 is_open_to (id ∷ ids) user = lists (id ∷ ids) user
 
--- The rule lets the user paint: it doesn't lock the layer, and the user is an operator, or has a
--- tier number at most the rule's and is among its ids, if it has some.
+-- The rule lets the user paint: it doesn't lock the layer, and the user is an operator or meets the
+-- rule. That is: the user's tier number is at most the rule's, and the user is among its ids, if it
+-- has some.
 abbrev pub lets_paint : List Entry → ℕ → LayerRule → Bool
 lets_paint history user rule =
     not rule.locked

@@ -15,8 +15,8 @@ pub record KeptRule : Type 0 where
   pub layer : ℕ
   pub rule : LayerRule
 
--- what is kept: for each user, by id, whether the user has joined, is operator, .., and the rules
--- of the layers; and for how many entries memory is spared
+-- What is kept: for each user, by id, whether the user has joined, is operator, .., and the rules
+-- of the layers. Besides, for how many entries memory is spared.
 pub record Kept : Type 0 where
   pub joined : List Bool
   pub operators : List Bool

@@ -37,11 +37,11 @@ use Rattle.dp_commands.specs.Servers.{NotResumed, ServedOn}
 abbrev pub AreRuns : Type 0
 AreRuns = (command : LocalCommand) → IsLocalRun (run_of command)
 
--- which counts of the streams rise in a run that ends so
+-- which counts of the streams rise in a run with this end
 abbrev pub Matches : Streams → RunEnd → Type 0
 Matches s end = FaultMatchesEnd s.read s.read_now s.written s.written_now end
 
--- what a run of the command leaves of the streams that ends so
+-- what a run of the command with this end leaves of the streams
 abbrev pub Leaves : LocalCommand → Streams → RunEnd → Type 0
 Leaves command s end = (run_of command).leaves s.input s.left s.old s.new s.counters end
 
@@ -58,7 +58,7 @@ module _ {W R T : Type 0} (see : Wires W R T) (name : List ℕ) (e : Effects W) 
   LeavesLink wire now = RunLeaves see.left see.read_faults see.held see.write_faults name
       (see.links wire) (see.links now) (see.faults wire) (see.faults now) (ends_of e.streams) end
 
-  -- what a run that ends so says of the counts, and of what is left
+  -- what a run with this end says of the counts, and of what is left
   abbrev pub Tells : RunEnd → Type 0
   Tells x = Matches e.streams x × IsReadWhole x e.streams.left
 

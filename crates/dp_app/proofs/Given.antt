@@ -132,7 +132,7 @@ module _ {A W R T : Type 0} (see : Wires W R T) (words : List (String A)) (e : E
     refused-given NoWords h same code line = absurd (memory code)
     refused-given _ h same code line = absurd h
 
-    -- a run that ended so has a status, and a line is said
+    -- a run with this end has a status, and a line is said
     module _ (end : RunEnd) (code : status ≡ status_of end)
         (line : Appends dold dnew (line_of end)) where
       fair-end : Matches e.streams end → end ≢ LinkFault → IsUnfailed end

@@ -28,7 +28,7 @@ use Rattle.dp_commands.specs.Servers.{server_end}
 use Rattle.dp_app.proofs.ByKind.{AreRuns, Matches, StoreLaw, dial-failed, has-wire, has-wires}
 use Rattle.dp_app.proofs.ByKind.{join-tells, served-failed, store-broke}
 
--- which counts of the streams rise if the program ends so
+-- which counts of the streams rise if the program ends with this
 abbrev pub Counted : Streams → Ending → Type 0
 Counted s (Run end) = Matches s end
 Counted s _ = (s.read_now ≡ s.read) × (s.written_now ≡ s.written)

@@ -69,11 +69,11 @@ pub struct Outcome<W, K> {
     pub reports: Reports,
 }
 
-/// The program: its words after its name, its input, its output, if it says why it ended, and
-/// the wires on which it may dial or that hand out the links of a server (`wanted` of dp_words says
-/// which it needs). A server resumes the session of the keeper's rows, and keeps its events there.
-/// The gate is passed by the workers of a server, outside the session's turn. The work on its
-/// canvas is counted. Nothing else is read or written.
+/// The program, on its words after its name, its input and its output. On `diag` it says why it
+/// ended. On the wires it may dial, or they hand out the links of a server (`wanted` of dp_words
+/// says which it needs). A server resumes the session of the keeper's rows, and keeps its events
+/// there. The gate is passed by the workers of a server, outside the session's turn. The work on
+/// its canvas is counted. Nothing else is read or written.
 pub fn drawpile<
     R: Threads + Wait + Sync,
     I: Source,
@@ -111,8 +111,8 @@ pub fn drawpile<
         ⊎ Says (E.held diag.old) (E.held diag.new) (E.faults diag.old) (E.faults diag.new)
         result.status Memory }
 
-    // A command on the input and the output alone ends in one of the ways of a run: what the input
-    // comes to decides what is written, the fault that ends it is the one that was counted, and the
+    // A command on the input and the output alone ends in one of the ways of a run. What the input
+    // comes to decides what is written. The fault that ends it is the one that was counted, and the
     // status and the line on diag report it. Of `world` what is written is the report of the lines
     // that are done, and no more is drawn than these lines may draw: what is said once, what is
     // taken on the client's two canvases, and nothing for a picture that is shown. Of `drill` each
@@ -129,9 +129,9 @@ pub fn drawpile<
 
     // `join` dials on the first wire, and ends in one of the ways of a run over a link: what the
     // script and the link come to decides what is printed and what is written to the link. Or
-    // memory ran out before the words were read. The link is handed back, and other wires stay.
-    // No more is drawn than is due to the messages that are said and the entries that are taken:
-    // nothing is drawn anew to show a canvas. Where it gets no link, the links of the wire stay as
+    // memory ran out before the words were read. The link is handed back, and other wires stay. No
+    // more is drawn than is due to the messages that are said and the entries that are taken:
+    // nothing is drawn anew to show a canvas. If it gets no link, the links of the wire stay as
     // they were, and nothing is read, written or drawn.
     ensures joins { (addr name : List ℕ) → Asks words.now (Join addr name) → wires.items ≢ []
         → HasJoined (wire_seen W.links W.faults W.Rx.left W.Rx.faults W.Tx.held W.Tx.faults)
@@ -159,17 +159,16 @@ pub fn drawpile<
         (E.held diag.old) (E.held diag.new) (E.faults diag.old) (E.faults diag.new)
         result.status }
 
-    // And whatever the input comes to: after its first lines, however many, each client has taken a
-    // prefix of the history of its epoch, its confirmed canvas is that prefix replayed, its view
-    // the same with its unanswered sends drawn, and a message that is not permitted changes
+    // This holds whatever the input comes to, after its first lines, however many. Each client has
+    // taken a prefix of the history of its epoch. Its confirmed canvas is that prefix replayed, and
+    // its view is the same with its unanswered sends drawn. A message that is not permitted changes
     // nothing and stands in no history. Its unanswered sends are its last ones, as long as no event
     // was answered Ended.
     ensures headline { IsWorld words.now → IfSome (I.left input.old) HasHeadline }
     ensures forks { IsWorld words.now → IfSome (I.left input.old) HasPlainForks }
 
-    // However `world` ended, what it wrote is a prefix of the report that its input is due, and no
-    // more was drawn than the schedule of its input may draw. It can't be that an input is due
-    // none.
+    // However `world` ended, what it wrote is a prefix of the report that its input is due. No more
+    // was drawn than the schedule of its input may draw. It can't be that an input is due none.
     ensures due { IsWorld words.now → IfSome (I.left input.old) (λ bytes.
         GrowsByDue bytes (O.held output.old) (O.held output.new)) }
     ensures due_draws { IsWorld words.now → IfSome (I.left input.old) (λ bytes.
@@ -180,9 +179,9 @@ pub fn drawpile<
         → (bytes : List ℕ) (link : Option (List ℕ))
         → ¬ ((answer : Answer) → ¬ IsDue words.now bytes link answer) }
 
-    // If nothing failed and memory sufficed, an answer is given that the words, the input's
-    // bytes and those of the link of `join` are due, and they are due no other. (What `serve` does
-    // depends on which worker comes first, too: `serves` says it.)
+    // If nothing failed and memory sufficed, an answer is given that the words, the input's bytes
+    // and those of the link of `join` are due. They are due no other. (What `serve` does depends on
+    // which worker comes first, too: `serves` says it.)
     ensures complete { ¬ HasWires words.now wires.items
         → ¬ Rose (I.faults input.old) (I.faults input.new)
         → ¬ Rose (O.faults output.old) (O.faults output.new)
@@ -230,16 +229,16 @@ pub fn drawpile<
     ensures distinct { AreDistinct (reported result.reports) }
 
     // Of a connection that a report names the journal has the events that were kept of its link's
-    // acts, in order and no others. Where the keeper's rows aren't known, others may stand before
+    // acts, in order and no others. If the keeper's rows aren't known, others may stand before
     // them.
     ensures connections { (report : LinkReport) (conn : ℕ) → IsIn report result.reports
         → report.conn ≡ Some conn
         → KeepsActs (link_seen W.Rx.left W.Rx.faults W.Tx.held W.Tx.faults) (K.held keeper)
         report conn result.journal result.shut }
 
-    // Whatever happens, the keeper that comes back holds the rows of the events that were kept, and
-    // after a put has failed perhaps that of one event more. If no session was resumed, nothing
-    // was kept, and its rows stay.
+    // Whatever happens, the keeper that comes back holds the rows of the events that were kept.
+    // After a put has failed, it may hold that of one event more. If no session was resumed,
+    // nothing was kept, and its rows stay.
     ensures rows_kept { HoldsKept
         (stores K.held K.put_faults K.read_faults keeper result.keeper)
         (kept result.journal result.shut result.reports) }

@@ -7,7 +7,7 @@ use std::thread;
 /// How many turns a job is held for.
 const TURNS: u64 = 200_000;
 
-/// A gate at which the first job is held until the job of a number has passed, or for so many
+/// A gate at which the first job is held until the job of a number has passed, or for a number of
 /// turns.
 #[derive(Drop)]
 pub struct HeldGate {

@@ -110,7 +110,7 @@ pub fn outcome_of<R: Threads + Wait + Sync, I: Source, O: Sink, E: Sink, W: Wire
     )
 }
 
-/// The same over a store, with a gate.
+/// What a run of the words leaves over a store, with a gate.
 pub fn outcome_over<
     R: Threads + Wait + Sync,
     I: Source,

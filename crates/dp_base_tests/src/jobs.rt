@@ -28,7 +28,7 @@ impl Job for Counts {
 /// How many turns a job is held for.
 const TURNS: u64 = 200_000;
 
-/// A gate at which job 0 is held until job 4 has passed, or for so many turns.
+/// A gate at which job 0 is held until job 4 has passed, or for a number of turns.
 #[derive(Drop)]
 struct Held {
     passed: AtomicU64,
@@ -52,7 +52,7 @@ impl Gate for Held {
     }
 }
 
-/// Runs eight jobs on so many workers, and says whether the gate gave up.
+/// Runs eight jobs on this number of workers, and says whether the gate gave up.
 fn gives_up<R: Threads + Sync + Abort>(rt: &R, workers: u32) -> bool {
     let gate = Held {
         passed: AtomicU64::new(0),

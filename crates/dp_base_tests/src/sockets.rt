@@ -233,7 +233,7 @@ fn check_settings(rt: &impl Abort, stream: &TcpStream) {
     assert_eq!(rt; limit, None);
 }
 
-// Where the peer stops reading, a write fails in the end, and lets go of the thread that reads. A
+// If the peer stops reading, a write fails in the end, and lets go of the thread that reads. A
 // stream's settings are those of each copy of it: the test shortens the limit of a write.
 #[test]
 fn a_peer_stops_reading(rt: HostRuntime) {

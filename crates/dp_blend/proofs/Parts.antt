@@ -14,7 +14,7 @@ pub length-part_of_row : (w : ℕ) (pixels : List Channels) (x y n : ℕ)
 length-part_of_row w pixels x y n =
     length-map (below n) (λ i. pixel_at w pixels (x + i) y) ∙ length-range_with_len 0 n
 
--- so many pixels of a function
+-- the first n pixels of a function
 pub is_part : (f : ℕ → Channels) (n : ℕ) (xs : List Channels) → length xs ≡ n
     → ((i : ℕ) → i < n → get_or xs i clear ≡ f i) → xs ≡ map f (below n)
 is_part f n xs len each = fill_by_all f xs n clear len each
@@ -32,7 +32,7 @@ parts_same f g n same =
     is_part g n (map f (below n)) (length-map (below n) f ∙ length-range_with_len 0 n)
     (λ i few. pixel_of_part f n i few ∙ same i few)
 
--- so many places of a row from x on, as they stand in the list
+-- n places of a row from x on, as they stand in the list
 pub part_in_list : (w x y n : ℕ) (pixels : List Channels) → y * w + x + n ≤ length pixels
     → take (y * w + x + n - (y * w + x)) (drop (y * w + x) pixels) ≡ part_of_row w pixels x y n
 part_in_list w x y n pixels in_list =

@@ -30,7 +30,7 @@ pub record FilledTo (f : Channels → Channels) (left right stride j : ℕ) (old
   pub rest : (k : ℕ) (d : Channels) → j * stride ≤ k → k < length old
       → get_or now k d ≡ get_or old k d
 
--- a pixel after f, where it stands from one column on before another
+-- a pixel after f, if it is in a column from one on before another
 abbrev pub changed_between : (Channels → Channels) → ℕ → ℕ → ℕ → Channels → Channels
 changed_between f left right x p = if is_between left right x then f p else p
 

@@ -15,6 +15,6 @@ canvas_of width height pixel = flat_map (λ y. map (λ x. pixel x y) (below widt
 abbrev pub pixel_at : ℕ → List Channels → ℕ → ℕ → Channels
 pixel_at width pixels x y = slice_index_or pixels (y * width + x) clear
 
--- so many pixels of the row y of a canvas of this width, from x on
+-- the first `count` pixels from x on in the row y of a canvas of this width
 abbrev pub part_of_row : ℕ → List Channels → ℕ → ℕ → ℕ → List Channels
 part_of_row width pixels x y count = map (λ i. pixel_at width pixels (x + i) y) (below count)

@@ -62,7 +62,7 @@ fn channel_multiplied(sc: u16, sa: u16, dc: u16, da: u16) -> u16
     mul(sc, dc) + mul(sc, ONE - da) + mul(dc, ONE - sa)
 }
 
-/// The channels multiplied, where both lie.
+/// The channels multiplied where both pixels lie.
 #[inline]
 fn multiplied(src: Pixel, dst: Pixel) -> Pixel
     ensures value { result ≡ blend Mode.Multiply src dst }
@@ -105,7 +105,7 @@ fn channel_recolored(sc: u16, sa: u16, dc: u16, da: u16) -> u16
     mul(sc, da) + mul(dc, ONE - sa)
 }
 
-/// The source over the destination, where the destination lies.
+/// The source over the destination where the destination lies.
 #[inline]
 fn recolored(src: Pixel, dst: Pixel) -> Pixel
     ensures value { result ≡ blend Mode.Recolor src dst }

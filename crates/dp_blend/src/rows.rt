@@ -1,8 +1,8 @@
 //! Rows of pixels: one source for each pixel, one through a mask, and a source at each place.
 //!
 //! Two pixels are blended at a time, and the last of an odd row by itself. A turn of a loop blends
-//! eight, so that what is the same for all is worked out once for them. Where few columns of rows
-//! are filled, the first and the last may be half of a pair, whose other pixel is kept.
+//! eight, so that what is the same for all is worked out once for them. If few columns of rows are
+//! filled, the first and the last may be half of a pair, whose other pixel is kept.
 //!
 //! The rule: docs/protocol.md, "Numbers and blending".
 

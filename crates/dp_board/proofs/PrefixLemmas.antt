@@ -74,7 +74,7 @@ none-append depth before (a ∷ acts) free none =
     subst (NoneHas depth) (append_assoc before (a ∷ []) acts)
     (none-append depth (before ++ a ∷ []) acts free.1 (none-push depth before a free.0 none))
 
--- a command is drawn, where its user has no group
+-- a command is drawn if its user has no group
 first-drawn : {Op : Type 0} → (depth : ℕ) (all before : List (UserAct Op)) (user : ℕ)
     (act : Act Op) → NoneHas depth before
     → command_of act (flag_of depth all before user act) ≡ command_of act true

@@ -6,7 +6,7 @@ use Rattle.dp_board.specs.declared.act.Act.TheVariants.{Point, Undo, Redo, Draw,
 use Rattle.dp_board.specs.declared.act.UserAct.{UserAct}
 use Rattle.dp_board.specs.Flags.{drawn_flags}
 
--- the command of an act, where its flag is true
+-- the command of an act, if its flag is true
 abbrev pub command_of : {Op : Type 0} → Act Op → Bool → List Op
 command_of (Draw op) true = op ∷ []
 command_of act flag = []

@@ -29,7 +29,7 @@ joins_from depth before (a ∷ rest) =
 abbrev pub joins : {Op : Type 0} → ℕ → List (UserAct Op) → List Join
 joins depth acts = joins_from depth [] acts
 
--- what joined so is drawn, where the users end with these done groups
+-- whether what joined by this is drawn, if the users end with these done groups
 abbrev pub is_join_drawn : List (List ℕ) → Join → Bool
 is_join_drawn done NoCommand = false
 is_join_drawn done GroupZero = true

@@ -86,8 +86,8 @@ is_point act = false
 abbrev pub HasNoPoint : {Op : Type 0} → List (UserAct Op) → Type 0
 HasNoPoint acts = AllByRecursion (λ a. is_point a.act ≡ false) acts
 
--- of a history that begins without a Point the beginning is drawn whole, and what comes after it is
--- drawn as it is alone, from the depth that the beginning leaves
+-- If a history begins without a Point, the beginning is drawn whole. What comes after it is drawn
+-- as it is alone, from the depth that the beginning leaves.
 abbrev pub PrefixesWithoutPoints : Type 0 → Type 0
 PrefixesWithoutPoints Op =
     (depth : ℕ) (before after : List (UserAct Op)) → HasNoPoint before

@@ -80,7 +80,7 @@ abbrev pub where_eligible : Window → Option ℕ → Option ℕ
 where_eligible window None = None
 where_eligible window (Some group) = if is_eligible window group then Some group else None
 
--- the group that an Undo moves: the last done one, where it is eligible
+-- the group that an Undo moves: the last done one, if it is eligible
 abbrev pub undoable : Window → Groups → Option ℕ
 undoable window g = where_eligible window (last_of g.done)
 

@@ -18,7 +18,7 @@ pub record Table : Type 0 where
   pub window : Window
   pub users : List Groups
 
--- each Point in reach came before the position, and there are groups of so many users
+-- each Point in reach came before the position, and the groups are those of 256 users
 pub record IsInOrder (position : ℕ) (window : Window) (users : ℕ) : Type 0 where
   pub count : users ≡ 256
   pub before : All (λ point. point < position) window.points

@@ -92,7 +92,7 @@ impl UserGroups {
         self.undone.clear();
     }
 
-    /// Takes back the last done group, where it is eligible.
+    /// Takes back the last done group, if it is eligible.
     fn undo(&mut self, window: &PointWindow) -> Result<(), AllocError>
         ensures { OnOk result (self.new ≡ undo (undoable window.now self.old) self.old) }
     {
@@ -105,7 +105,7 @@ impl UserGroups {
         Ok(())
     }
 
-    /// The group that an undo moves: the last done one, where it is eligible.
+    /// The group that an undo moves: the last done one, if it is eligible.
     pub(crate) fn undoable(&self, window: &PointWindow) -> Option<usize>
         ensures { result ≡ undoable window.now self.now }
     {
@@ -132,8 +132,8 @@ impl UserGroups {
         })
     }
 
-    /// Where the act that was taken last is a point, forgets done groups that are out of reach and
-    /// come before another that is out of reach.
+    /// If the act that was taken last is a point, forgets each done group out of reach that comes
+    /// before another such one.
     pub(crate) fn tidy<Op>(&mut self, window: &PointWindow, act: &Act<Op>)
         ensures { self.new ≡ kept_after window.now act.now self.old }
     {

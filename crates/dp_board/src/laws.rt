@@ -64,9 +64,9 @@ pub fn groups_are_points<Op>()
     ensures moved { MovedIsAPoint Op }
 {}
 
-/// The flags of a history with one more act. Where the act moves no group they stay, and the act
-/// has the flag true if it is a command. Where it moves one, the flags of that group change and
-/// no others, and none up to the point of the group.
+/// The flags of a history with one more act. If the act moves no group they stay, and the act has
+/// the flag true if it is a command. If it moves one, the flags of that group change and no others,
+/// and none up to the point of the group.
 pub fn flags_go_on<Op>()
     ensures unmoved { FlagsGoOn Op }
     ensures moved { FlagsMove Op }

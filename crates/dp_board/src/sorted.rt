@@ -24,7 +24,7 @@ impl Model for SortedGroups {
 }
 
 impl SortedGroups {
-    /// The same groups in ascending order.
+    /// The groups of the list in ascending order.
     pub(crate) fn new(alloc: Global, groups: &[usize]) -> Result<Self, AllocError>
         ensures { IfOk result (λ sorted. HaveSame sorted groups.now) }
     {

@@ -28,8 +28,8 @@ struct Word {
 }
 
 impl Word {
-    /// The act: P a point, D a command that sets the number at the digit, U an undo and R a redo of
-    /// the user's own groups, O another.
+    /// The act: P is a point, and D a command that sets the number at the digit. U is an undo and R
+    /// a redo of the user's own groups, and O another.
     fn act(self) -> Act<SetNumber> {
         match self.kind {
             b'P' => Act::Point,
@@ -122,8 +122,8 @@ fn take<D: Ledger, T: Ledger>(
     }
 }
 
-/// Goes on with the fork, and once more if memory was refused. Where it is quiet, by its call
-/// that takes no memory, if that is asked.
+/// Goes on with the fork, and once more if memory was refused. If it is quiet, by its call that
+/// takes no memory, if that is asked.
 fn answer<D: Ledger, T: Ledger>(
     painter: &mut Painter,
     (word, own, change): (Word, Own, Change),
@@ -169,8 +169,9 @@ fn receive<D: Ledger, T: Ledger>(
     }
 }
 
-/// A step by a word of three letters: what comes (s is said, t a stranger's, e an echo, d stands in
-/// place of the first that was said, l has all lost), what it does, and a digit.
+/// A step by a word of three letters: what comes, what it does, and a digit. Of what comes s is
+/// said, t a stranger's and e an echo. A d stands in place of the first that was said, and l has
+/// all lost.
 fn step<D: Ledger, T: Ledger>(
     rt: &impl Abort,
     painter: &mut Painter,

@@ -163,8 +163,8 @@ fn add_group(script: &mut String, number: usize, commands: usize) -> Result<(), 
     script.push_str(if number % 6 == 5 { " U1 R3" } else { "" })
 }
 
-/// A script of so many groups. Each has `commands` commands, or, if that is `None`, from 0 to 19
-/// in turn.
+/// A script of this number of groups. Each has `commands` commands, or, if that is `None`, from 0
+/// to 19 in turn.
 fn script_of(rt: &impl Abort, alloc: Global, groups: usize, commands: Option<usize>) -> String {
     let mut script = String::new(alloc);
     for number in 0..groups {

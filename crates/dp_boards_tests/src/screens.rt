@@ -198,8 +198,9 @@ fn begin_anew<B: Board<Op = Draw> + BoardView, D: Ledger, T: Ledger>(
     Ok(())
 }
 
-/// A step by a word of three letters: what comes (s is said, t a stranger's, e an echo, d stands in
-/// place of the first that was said, l has all lost, m is a mark), what it does, and a digit.
+/// A step by a word of three letters: what comes, what it does, and a digit. Of what comes s is
+/// said, t a stranger's and e an echo. A d stands in place of the first that was said, l has all
+/// lost, and m is a mark.
 fn step<B: Board<Op = Draw> + BoardView, D: Ledger, T: Ledger>(
     rt: &impl Abort,
     painter: &mut Painter<B>,

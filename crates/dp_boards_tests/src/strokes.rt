@@ -57,7 +57,7 @@ static HISTORIES: [(u32, &str, u32, &str); 42] = [
     // Group 0 is never undone.
     (30, "1D+ 1U1 1U1", 0, ""),
     (30, "1D+ 1P. 1D- 1U1 1U1", 0, ""),
-    // The same history after each of its acts.
+    // Each of these rows has more acts of one history.
     (30, "1P. 1D+", 0, ""),
     (30, "1P. 1D+ 1U1 1R1", 0, ""),
     (30, "1P. 1D+ 1U1 1R1 1R1", 0, ""),

@@ -77,7 +77,7 @@ fn first_run(ops: &[Draw]) -> Run
     }
 }
 
-/// Counts so many draws.
+/// Counts `count` draws.
 fn count_draws<D: Ledger>(draws: &mut Steps<D>, count: usize)
     ensures { draws.new ≡ draws.old + count }
 {

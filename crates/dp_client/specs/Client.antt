@@ -16,9 +16,9 @@ use Rattle.dp_fork.specs.declared.own.Own.{Own}
 use Rattle.dp_fork.specs.declared.own.Own.TheVariants.{Stranger, Echo, Dropped, Lost}
 use Rattle.dp_client.specs.declared.client.Taken.{Taken}
 
--- The user's id, and the epoch and the index of the user's Join, from the Welcome; the epoch that
--- the client is in; the entries that it has taken of that; and its fork: what it has said that
--- isn't answered, in order.
+-- The user's id, and the epoch and the index of the user's Join, from the Welcome. Then the epoch
+-- that the client is in, and the entries that it has taken of that. Last its fork: what it has said
+-- that isn't answered, in order.
 pub record State : Type 0 where
   pub user : ℕ
   pub joined_epoch : ℕ

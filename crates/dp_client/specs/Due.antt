@@ -15,9 +15,9 @@ use Rattle.dp_replay.specs.Replay.{act_of_message, undo_depth, user_act_of}
 use Rattle.dp_screen.specs.Due as screen
 use Rattle.dp_client.specs.Client.{State, own_of}
 
--- what an entry that is no mark may draw on both boards, if this says which commands are apart:
--- on the confirmed one its own command, or if it moves a group those from that group's point on;
--- and what it has drawn anew on that of the fork
+-- What an entry that is no mark may draw on both boards, if this says which commands are apart. On
+-- the confirmed one it is its own command, or if it moves a group those from that group's point on.
+-- On that of the fork it is what it has drawn anew.
 abbrev pub entry_due : (Draw → Draw → Bool) → State → Entry → List Draw
 entry_due apart s entry =
     screen.due apart undo_depth (map user_act_of s.taken) (user_act_of entry) (own_of s entry)
@@ -58,8 +58,8 @@ ApartDrawsTwice =
     → is_apart apart op (filter_map command_of s.fork) ≡ true
     → length (due_on apart s (record { user = user; msg = msg.Draw op })) ≤ 2
 
--- an entry that moves a group may draw at most as many commands as there are entries from the point
--- of that group on, and those of the fork
+-- An entry that moves a group may draw few commands: at most as many as there are entries from the
+-- point of that group on, and those of the fork.
 abbrev pub MoveDrawsFew : Type 0
 MoveDrawsFew =
     (apart : Draw → Draw → Bool) (s : State) (entry : Entry) (group : ℕ)

@@ -26,8 +26,8 @@ with_entry s entry = record s {
 abbrev pub with_mark : State → ℕ → Entry → State
 with_mark s epoch entry = record s { epoch = epoch; taken = entry ∷ []; fork = [] }
 
--- The next entry of its epoch, the mark or after that one that is none, joins those that it has
--- taken, and moves no place of own answers; nothing is acknowledged.
+-- The next entry of its epoch joins those that it has taken: the mark, or after that one that is
+-- none. It moves no place of own answers, and nothing is acknowledged.
 pub record TakesHere (s : State) (entry : Entry) : Type 0 where
   pub took : took s entry ≡ with_entry s entry
   pub ack : (taken_of s entry).ack ≡ None

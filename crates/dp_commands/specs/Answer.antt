@@ -9,7 +9,7 @@ use Rattle.dp_lines.specs.declared.run_end.RunEnd.TheVariants.{LinkFault}
 use Rattle.dp_lines.specs.declared.run_end.RunEnd.TheVariants.{Memory, Long, Truncated, BadMessage}
 use Rattle.dp_lines.specs.declared.run_end.RunEnd.TheVariants.{Closed, BadHeader}
 
--- the status of a run that ends so
+-- the status of a run with this end
 abbrev pub status_of : RunEnd → ℕ
 status_of Done = 0
 status_of (BadLine n) = 2
@@ -51,7 +51,7 @@ pub record Answer : Type 0 where
   pub text : List ℕ
   pub line : List ℕ
 
--- the answer of a run that ends so, with this text
+-- the answer of a run with this end and this text
 abbrev pub answer_for : RunEnd → List ℕ → Answer
 answer_for end text = record { status = status_of end; text = text; line = line_of end }
 

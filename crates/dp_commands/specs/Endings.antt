@@ -16,7 +16,7 @@ use Rattle.dp_commands.specs.declared.ending.Ending.TheVariants.{Usage, NoLink, 
 use Rattle.dp_commands.specs.declared.ending.Ending.TheVariants.{StoreFault, BadRow}
 use Rattle.dp_commands.specs.Answer.{line_of, no_link_line, status_of, usage_line}
 
--- the program's status if it ends so
+-- the program's status if it ends with this
 abbrev pub code_of : Ending → ℕ
 code_of Usage = 1
 code_of NoLink = 13
@@ -39,8 +39,8 @@ ending_line (Run end) = line_of end
 ending_line StoreFault = codes "store fault\n"
 ending_line (BadRow n row) = bad_row_line n row.bytes
 
--- what the streams were before, and are now: the bytes that are left of the input, those that the
--- output holds, and how often each has failed; and the counters of draws and of tiles
+-- What the streams were before, and are now: the bytes that are left of the input, those that the
+-- output holds, and how often each has failed. Then the counters of draws and of tiles.
 pub record Streams : Type 0 where
   pub input : Option (List ℕ)
   pub left : Option (List ℕ)

@@ -22,7 +22,7 @@ ends_of s = record {
   counters = s.counters;
 }
 
--- the session was joined over the first of the wires by this name, and ended so
+-- the session was joined over the first of the wires by this name, with this end
 pub record JoinsOn {W R T : Type 0} (see : Wires W R T) (name : List ℕ) (e : Effects W)
     (end : RunEnd) : Type 0 where
   pub wire : W

@@ -15,7 +15,7 @@ use Rattle.dp_commands.specs.Runs as runs
 use Rattle.dp_commands.specs.Runs.{run_of}
 use Rattle.dp_commands.specs.Servers.{RunsServer}
 
--- a run on the input and the output alone ended so
+-- a run on the input and the output alone, with this end
 pub record RunsLocally {W : Type 0} (run : runs.Run) (e : Effects W) (end : RunEnd) : Type 0 where
   pub leaves : run.leaves e.streams.input e.streams.left e.streams.old e.streams.new
       e.streams.counters end
@@ -23,7 +23,7 @@ pub record RunsLocally {W : Type 0} (run : runs.Run) (e : Effects W) (end : RunE
       e.streams.written_now end
   pub stays : StaysLocal e
 
--- what a run of the command leaves that ends so, if the wires that it needs are there
+-- what a run of the command with this end leaves, if the wires that it needs are there
 abbrev pub KindLeaves : {W R T : Type 0} → Wires W R T → CommandLine → Effects W → Ending → Type 0
 KindLeaves see (Local command) e ending =
     (end : RunEnd) × (ending ≡ Run end) × RunsLocally (run_of command) e end
@@ -32,7 +32,7 @@ KindLeaves see (Join addr name) e ending =
 KindLeaves see (Listen addr workers conns service) e ending =
     (length e.old ≡ workers) × RunsServer see conns e ending
 
--- what a command leaves that ends so
+-- what a command with this end leaves
 abbrev pub EndsCommand : {W R T : Type 0} → Wires W R T → CommandLine → Effects W → Ending → Type 0
 EndsCommand see command e ending =
     ((ending ≡ NoLink) × LacksWires command e.old × NothingIsDone e)

@@ -23,8 +23,8 @@ use Rattle.dp_world.specs.RunEnds.{WorldLeaves, lines_end_of}
 use Rattle.dp_world.specs.Schedule.{WorldComesTo}
 use Rattle.dp_commands.specs.Answer.{Answer, answer_for}
 
--- A command on an input and an output: the answer that an input of these bytes is due, what a run
--- leaves that ends so, and whether it reads its input to the end.
+-- A command on an input and an output: the answer that an input of these bytes is due, and what a
+-- run with this end leaves. Last, whether it reads its input to the end.
 pub record Run : Type 1 where
   pub due : List ℕ → Answer → Type 0
   pub leaves : Option (List ℕ) → Option (List ℕ) → Option (List ℕ) → Option (List ℕ) → Counters

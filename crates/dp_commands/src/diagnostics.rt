@@ -28,7 +28,7 @@ pub fn say<E: Sink>(diag: &mut E, ending: &Ending) -> u8
     }
 }
 
-/// The program's status if it ends so.
+/// The program's status if it ends with this.
 fn code_of(ending: &Ending) -> u8
     ensures { result ≡ code_of ending.now }
 {

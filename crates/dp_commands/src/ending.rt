@@ -12,7 +12,7 @@ pub enum Ending {
     NoLink,
     /// Memory ran out before the words were read.
     NoWords,
-    /// A run of the command ended so.
+    /// A run of the command came to this end.
     Run(RunEnd),
     /// The store failed.
     StoreFault,

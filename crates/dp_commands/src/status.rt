@@ -5,7 +5,7 @@ ghost use Rattle.dp_commands.specs.Answer.{status_of};
 
 use dp_lines::RunEnd;
 
-/// The program's status if a run ends so. The table: docs/protocol.md, "Statuses".
+/// The program's status if a run ends with this. The table: docs/protocol.md, "Statuses".
 pub fn status_of(end: RunEnd) -> u8
     ensures { result ≡ status_of end }
 {

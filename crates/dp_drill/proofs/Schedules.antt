@@ -146,7 +146,7 @@ waiting-is w f h client =
     by_client None = refl
     by_client (Some p) = refl
 
--- so many sends of each client
+-- a sends of client 1, b of client 2 and c of client 3
 abbrev sends : ℕ → ℕ → ℕ → List Action
 sends a b c = replicate a (Act 1 Up) ++ (replicate b (Act 2 Up) ++ (replicate c (Act 3 Up) ++ []))
 

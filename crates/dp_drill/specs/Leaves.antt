@@ -25,8 +25,8 @@ WritesText text old new (BadMessage n) = ⊥
 WritesText text old new Closed = ⊥
 WritesText text old new BadHeader = ⊥
 
--- What a drill that ends so leaves on the output, and that it drew each command that is due at most
--- once, and made no more tiles than these reach.
+-- What a drill with this end leaves on the output. It drew each command that is due at most once,
+-- and made no more tiles than these reach.
 pub record DrillLeaves (seed count : ℕ) (old new : Option (List ℕ)) (c : Counters) (end : RunEnd)
     : Type 0 where
   pub text : WritesText (drill_text seed count) old new end

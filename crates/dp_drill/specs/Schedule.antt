@@ -65,7 +65,7 @@ round_brush s v = record { x = s % 256; y = s / 256 % 256; rgb = v % 2 ^ 24 }
 unfoldable pub round : ℕ → ℕ → List Action
 round r v = let q = r / 3 in round_of (1 + r % 3) (q % 16) (round_brush (q / 16) v)
 
--- so many rounds, from a state of the generator on
+-- n rounds, from a state of the generator on
 abbrev pub rounds : ℕ → ℕ → List Action
 rounds x zero = []
 rounds x (suc n) =
@@ -104,7 +104,7 @@ abbrev pub sent_actions : ℕ → ℕ → List Action
 sent_actions seed count =
     drawn_actions seed count ++ sends_all (world_after (drawn_actions seed count))
 
--- the schedule of a drill with so many rounds
+-- the schedule of a drill with `count` rounds
 abbrev pub drill_actions : ℕ → ℕ → List Action
 drill_actions seed count =
     sent_actions seed count ++ takes_all (world_after (sent_actions seed count))

@@ -157,7 +157,7 @@ impl Flow {
         }
     }
 
-    /// The client's uplink sends so many times.
+    /// The client's uplink sends this many times.
     fn send_times(&mut self, client: u32, times: usize) -> Result<(), AllocError>
         requires { self.old.past.first_fault ≡ None }
         ensures ok { OnOk result (self.new

@@ -51,7 +51,7 @@ pub(crate) fn begin(alloc: Global) -> Result<Flow, AllocError>
     Ok(flow)
 }
 
-/// So many rounds, from a state of the generator on.
+/// This number of rounds, from a state of the generator on.
 pub(crate) fn play_rounds(
     alloc: Global,
     flow: &mut Flow,

@@ -30,8 +30,8 @@ pub struct Drill {
 }
 
 /// Makes the session of a drill, and writes its summary. Of its history each command that isn't
-/// undone is drawn once, by so many workers, if 0 is 1. What is written is the same for each
-/// number of them.
+/// undone is drawn once, by as many workers as asked for, if 0 is 1. What is written is the same
+/// for each number of them.
 ///
 /// # Errors
 ///

@@ -17,7 +17,7 @@ pub asked : (P : Type 0) → (P → ⊥) → ((P → ⊥) → ⊥) → ⊥
 asked P holds fails = fails holds
 
 module _ (M : ℕ → FrameParts → Entry → Type 0) where
-  -- after so many frames the bytes are whole frames that stand for the entries, and then a rest
+  -- after `before` frames the bytes are whole frames that stand for the entries, and then a rest
   record TellsFrom (before : ℕ) (bytes : List ℕ) (entries : List Entry) (rest : List ℕ) : Type 0
     where
       frames : List FrameParts

@@ -13,7 +13,7 @@ abbrev pub IfCause : {C : Type 0} → (C → Type 0) → Refusal C → Type 0
 IfCause P (refusal.Cause cause) = P cause
 IfCause P refusal.Memory = ⊤
 
--- how a run ends for which reading its input ended so
+-- how a run ends for which reading its input ended with this
 abbrev pub end_of : {C : Type 0} → ReadEnd C → RunEnd
 end_of ReadFault = run.ReadFault
 end_of (Truncated n) = run.Truncated n

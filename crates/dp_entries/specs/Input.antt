@@ -40,10 +40,10 @@ pub record TellsUpTo (MayStand : ℕ → FrameParts → Entry → Type 0) (bytes
   pub whole : bytes ≡ flat_map spelling frames ++ (spelling bad ++ more)
   pub place : n ≡ length (flat_map spelling frames)
 
--- What an input comes to of which so many bytes count, and whose first frame begins at the byte
--- `first`. The earliest cause wins: the first frame that may not stand there, where it is whole
--- within the limit; then the limit; then an end inside a frame. The other ends don't come from the
--- input's bytes.
+-- What an input comes to of which `limit` bytes count, and whose first frame begins at the byte
+-- `first`. The earliest cause wins: the first frame that may not stand there, if it is whole within
+-- the limit; then the limit; then an end inside a frame. The other ends don't come from the input's
+-- bytes.
 abbrev pub ComesTo : (ℕ → FrameParts → Entry → Type 0) → ℕ → ℕ → List ℕ → List Entry → RunEnd
     → Type 0
 ComesTo MayStand first limit input entries Done =
@@ -65,8 +65,8 @@ ComesTo MayStand first limit input entries (BadLine n) = ⊥
 ComesTo MayStand first limit input entries Closed = ⊥
 ComesTo MayStand first limit input entries BadHeader = ⊥
 
--- These bytes hold no cause to end: they are no more than count, and after the first ones they are
--- whole frames that stand for entries and a rest that holds no whole frame.
+-- These bytes hold no cause to end. They are no more than count. After the first ones they are
+-- whole frames that stand for entries, and a rest that holds no whole frame.
 pub record HoldsNoCause (MayStand : ℕ → FrameParts → Entry → Type 0) (first limit : ℕ)
     (bytes : List ℕ) : Type 0 where
   pub entries : List Entry

@@ -53,8 +53,8 @@ pub record ReadOn (MayStand : ℕ → FrameParts → Entry → Type 0) (source l
   pub place : reader.stream.at ≡ start.at + at
   pub over : IsTrue reader.over ↔ (reader.limit < count_from start read)
 
--- What was read to the end of reading: of the bytes that count the first ones are frames that stand
--- for the entries, and P holds of all that was read and of the rest.
+-- What was read to the end of reading. Of the bytes that count the first ones are frames that stand
+-- for the entries. P holds of all that was read and of the rest.
 pub record ReadOnTo (P : List ℕ → List ℕ → Type 0) (MayStand : ℕ → FrameParts → Entry → Type 0)
     (limit : ℕ) (source left : Option (List ℕ)) (start : Stream) (entries : List Entry) : Type 0
   where
@@ -69,7 +69,7 @@ pub record ReadOnTo (P : List ℕ → List ℕ → Type 0) (MayStand : ℕ → F
 
 -- ---- the ends
 
--- the rest begins with a frame that may not stand with so many frames before it, for this cause
+-- the rest begins with a frame that may not stand with `before` frames before it, for this cause
 pub record BeginsBad {C : Type 0} (IsCause : ℕ → FrameParts → C → Type 0) (before : ℕ)
     (rest : List ℕ) (cause : C) : Type 0 where
   pub frame : FrameParts
@@ -82,8 +82,8 @@ pub record BeginsBad {C : Type 0} (IsCause : ℕ → FrameParts → C → Type 0
 abbrev pub RestsWhole : ℕ → Stream → List ℕ → List ℕ → Type 0
 RestsWhole limit start read rest = HoldsNoFrame rest × (count_from start read ≤ limit)
 
--- By how reading ended: the rest holds no whole frame, if all bytes count or if others were
--- read; or a frame may not stand, and begins at byte n of the stream.
+-- By how reading ended. Either the rest holds no whole frame, and all bytes count or others were
+-- read. Or a frame may not stand, and begins at byte n of the stream.
 abbrev pub RestsBy : {C : Type 0} → (ℕ → FrameParts → C → Type 0) → ℕ → Stream → ℕ → List ℕ
     → ReadEnd C → List ℕ → List ℕ → Type 0
 RestsBy IsCause limit start before held ReadFault read rest = RestsWhole limit start read rest
@@ -101,7 +101,7 @@ abbrev pub EndsOn : (ℕ → FrameParts → Entry → Type 0) → ℕ → Option
 EndsOn MayStand limit source left start entries =
     ReadOnTo (RestsWhole limit start) MayStand limit source left start entries
 
--- reading ended so, with these bytes held
+-- reading ended with this, with these bytes held
 abbrev pub HaltsOn : {C : Type 0} → (ℕ → FrameParts → Entry → Type 0)
     → (ℕ → FrameParts → C → Type 0) → ℕ → Option (List ℕ) → Option (List ℕ) → Stream → List Entry
     → List ℕ → ReadEnd C → Type 0

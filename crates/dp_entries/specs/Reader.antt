@@ -8,9 +8,9 @@ use Rattle.dp_split.specs.Stream.{Stream}
 use Rattle.dp_messages.specs.declared.message.Entry.{Entry}
 use Rattle.dp_entries.specs.Input.{StandFor, HoldsNoCause}
 
--- what clauses see of a reader: the byte at which the first frame begins, and how many bytes count;
--- the bytes that are held of those that count, and how many frames were taken; whether bytes were
--- taken that don't count; and whether it has ended
+-- What clauses see of a reader: the byte at which the first frame begins, and how many bytes count.
+-- Then the bytes that are held of those that count, and how many frames were taken. Last, whether
+-- bytes were taken that don't count, and whether it has ended.
 pub record Reader : Type 0 where
   pub first : ℕ
   pub limit : ℕ

@@ -12,7 +12,7 @@ use Rattle.dp_entries.specs.declared.ends.ReadEnd.TheVariants.{ReadFault, Trunca
 use Rattle.dp_entries.specs.declared.ends.ReadEnd.TheVariants.{Long, Memory}
 use Rattle.dp_entries.specs.Input.{ComesTo, HoldsNoCause}
 
--- the first frame that is held is taken, and stands for the entry with so many frames before it
+-- the first frame that is held is taken, and stands for the entry with `before` frames before it
 pub record TakesEntry (MayStand : ℕ → FrameParts → Entry → Type 0) (before : ℕ)
     (old new : Stream) (entry : Entry) : Type 0 where
   pub frame : FrameParts
@@ -21,7 +21,7 @@ pub record TakesEntry (MayStand : ℕ → FrameParts → Entry → Type 0) (befo
   pub at : new.at ≡ old.at + length (spelling frame)
   pub stands : MayStand before frame entry
 
--- the first frame that is held is taken, and may not stand with so many frames before it, for this
+-- the first frame that is held is taken, and may not stand with `before` frames before it, for this
 -- cause
 pub record TakesBad {C : Type 0} (IsCause : ℕ → FrameParts → C → Type 0) (before : ℕ)
     (old new : Stream) (cause : C) : Type 0 where
@@ -31,7 +31,7 @@ pub record TakesBad {C : Type 0} (IsCause : ℕ → FrameParts → C → Type 0)
   pub at : new.at ≡ old.at + length (spelling frame)
   pub why : IsCause before frame cause
 
--- a frame of the input may not stand, for this cause: it begins at byte n, after so many frames
+-- a frame of the input may not stand, for this cause: it begins at byte n, after `before` frames
 pub record IsBadAt {C : Type 0} (IsCause : ℕ → FrameParts → C → Type 0) (input : List ℕ)
     (before n : ℕ) (cause : C) : Type 0 where
   pub frame : FrameParts
@@ -41,7 +41,7 @@ pub record IsBadAt {C : Type 0} (IsCause : ℕ → FrameParts → C → Type 0) 
   pub place : n ≡ length prefix
   pub why : IsCause before frame cause
 
--- What was taken holds no cause to end, but for the last bytes of it, at most so many.
+-- What was taken holds no cause to end, but for the last bytes of it, at most `most`.
 abbrev pub TookNoCause : (ℕ → FrameParts → Entry → Type 0) → ℕ → ℕ → ℕ → List ℕ → Option (List ℕ)
     → Type 0
 TookNoCause MayStand first limit most input left =
@@ -66,7 +66,7 @@ EndsReading MayStand IsCause first limit input left entries Long =
     × TookNoCause MayStand first limit 4096 input left
 EndsReading MayStand IsCause first limit input left entries Memory = ⊤
 
--- the count of the input's faults if reading ended so: a fault raised it, and else it stays
+-- the count of the input's faults if reading ended with this: a fault raised it, and else it stays
 abbrev pub FaultMatchesReadEnd : {C : Type 0} → ℕ → ℕ → ReadEnd C → Type 0
 FaultMatchesReadEnd before now ReadFault = Rose before now
 FaultMatchesReadEnd before now (Truncated n) = now ≡ before

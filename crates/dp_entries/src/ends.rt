@@ -30,7 +30,7 @@ pub enum ReadEnd<C> {
 }
 
 impl<C> ReadEnd<C> {
-    /// How a run ends for which reading its input ended so.
+    /// How a run ends for which reading its input ended with this.
     pub fn run_end(&self) -> RunEnd
         ensures { result ≡ end_of self.now }
     {

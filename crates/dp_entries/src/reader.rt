@@ -58,8 +58,8 @@ impl<S: Standing> Model for EntryReader<S> {
 }
 
 impl<S: Standing> EntryReader<S> {
-    /// A reader of a source of which so many bytes were taken: there its first frame begins. Of the
-    /// whole source so many bytes count.
+    /// A reader of a source of which `first` bytes were taken: there its first frame begins. Of the
+    /// whole source `limit` bytes count.
     pub fn new(alloc: Global, first: u64, limit: u64) -> Self
         requires { first ≤ limit }
         ensures first { result.first ≡ first }
@@ -83,7 +83,7 @@ impl<S: Standing> EntryReader<S> {
         }
     }
 
-    /// A reader that begins with what a splitter holds. Of its stream so many bytes count, with
+    /// A reader that begins with what a splitter holds. Of its stream `limit` bytes count, with
     /// those that were taken as frames before.
     pub fn resume(splitter: Splitter, limit: u64) -> Self
         requires { splitter.at + length splitter.held ≤ limit }
@@ -126,9 +126,9 @@ impl<S: Standing> EntryReader<S> {
     ///
     /// # Errors
     ///
-    /// `ReadFault` if the input failed, `Truncated` if it ends inside a frame, `BadMessage`
-    /// at the first frame that may not stand, `Long` if more bytes than count were taken, and
-    /// `Memory` if memory ran out.
+    /// `ReadFault` if the input failed, and `Truncated` if it ends inside a frame. `BadMessage` at
+    /// the first frame that may not stand, `Long` if more bytes than count were taken, and `Memory`
+    /// if memory ran out.
     #[inline(always)]
     pub fn next<I: Source>(
         &mut self,
@@ -145,7 +145,7 @@ impl<S: Standing> EntryReader<S> {
         ensures within { HoldsWithin self.new }
         ensures source { SameSource self.old self.new }
 
-        // If there is none, the input came to its end, or reading it ended so.
+        // If there is none, the input came to its end, or reading it ended with the error.
         ensures at_end { ¬ IsTrue self.old.ended → IfOk result (λ next.
             IfNone next (IsAtEnd (I.left input.new))) }
         ensures done { ¬ IsTrue self.old.ended → IfOk result (λ next. IfNone next
@@ -158,7 +158,7 @@ impl<S: Standing> EntryReader<S> {
             (I.left input.new) entries end) }
         ensures inside { IfErr result (EndsWithInput (I.left input.new)) }
 
-        // The same of what was read from a stream on.
+        // These clauses say the same of what was read from a stream on.
         ensures goes_on { IfOk result (λ next. IfSome next (λ entry.
             (source : Option (List ℕ)) (start : Stream) (entries : List Item)
             → ReadOn S.may_stand source (I.left input.old) start entries self.old
@@ -243,9 +243,9 @@ impl<S: Standing> EntryReader<S> {
     ///
     /// # Errors
     ///
-    /// `ReadFault` if the input failed, `Truncated` if it ends inside a frame, `Long` if
-    /// more bytes than count were taken, and `Memory` if memory ran out. It reads even if
-    /// `next` has ended.
+    /// `ReadFault` if the input failed, and `Truncated` if it ends inside a frame. `Long` if more
+    /// bytes than count were taken, and `Memory` if memory ran out. It reads even if `next` has
+    /// ended.
     #[inline(always)]
     pub fn fill<I: Source>(&mut self, input: &mut I) -> Result<bool, ReadEnd<S::Cause>>
         ensures read { OnOk result ((bytes : List ℕ) (entries : List Item)
@@ -254,12 +254,12 @@ impl<S: Standing> EntryReader<S> {
         ensures held { IfOk result (λ more. IsTrue more
             → ¬ HoldsNoFrame self.new.stream.held) }
 
-        // Where a whole frame is held, nothing is read.
+        // If a whole frame is held, nothing is read.
         ensures ready { ¬ HoldsNoFrame self.old.stream.held → IsOkAnd result (λ more. IsTrue more) }
         ensures idle { ¬ HoldsNoFrame self.old.stream.held
             → (self.new ≡ self.old) × (I.left input.new ≡ I.left input.old) }
 
-        // If there is none, the input came to its end, or reading it ended so.
+        // If there is none, the input came to its end, or reading it ended with the error.
         ensures at_end { IfOk result (λ more. ¬ IsTrue more → IsAtEnd (I.left input.new)) }
         ensures done { IfOk result (λ more. ¬ IsTrue more → (bytes : List ℕ) (entries : List Item)
             → HasRead S.may_stand bytes (I.left input.old) entries self.old
@@ -272,7 +272,7 @@ impl<S: Standing> EntryReader<S> {
         ensures within { HoldsWithin self.new }
         ensures place { SamePlace self.old self.new }
 
-        // The same of what was read from a stream on.
+        // These clauses say the same of what was read from a stream on.
         ensures goes_on { OnOk result ((source : Option (List ℕ)) (start : Stream)
             (entries : List Item)
             → ReadOn S.may_stand source (I.left input.old) start entries self.old

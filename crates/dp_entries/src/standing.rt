@@ -15,13 +15,13 @@ pub trait Standing {
     /// Why a frame may not stand.
     type Cause: Drop;
 
-    /// With so many frames before it, the frame may stand for the entry.
+    /// With n frames before it, the frame may stand for the entry.
     ghost may_stand: { ℕ → FrameParts → Item → Type 0 };
 
-    /// With so many frames before it, the frame may stand for no entry, for this cause.
+    /// With n frames before it, the frame may stand for no entry, for this cause.
     ghost is_cause: { ℕ → FrameParts → Self.Cause → Type 0 };
 
-    /// The entry that the frame stands for, with so many frames before it.
+    /// The entry that the frame stands for, with `before` frames before it.
     ///
     /// # Errors
     ///

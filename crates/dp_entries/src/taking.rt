@@ -18,8 +18,8 @@ pub struct Stop<C> {
     pub why: Refusal<C>,
 }
 
-/// Takes the first frame that is held, and gives the entry that it stands for with so many frames
-/// before it; `None` if no whole frame is held.
+/// Takes the first frame that is held, and gives the entry that it stands for with `before` frames
+/// before it. It gives `None` if no whole frame is held.
 ///
 /// # Errors
 ///

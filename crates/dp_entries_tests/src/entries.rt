@@ -13,8 +13,8 @@ const STREAM: [u8; 16] = [
     0x00, 0x00, 0x80, 0x01, 0x00, 0x02, 0xff, 0x01, 0x00, 0x00, 0x00, 0x02, 0x23, 0x01, 0x68, 0x69,
 ];
 
-/// How many bytes of the stream there are, the length of the pieces, the read that fails (or 0),
-/// how many bytes count, how many entries there are, and how reading ends.
+/// How many bytes of the stream there are, the length of the pieces, and the read that fails (or
+/// 0). Then how many bytes count, how many entries there are, and how reading ends.
 static ROWS: [(usize, usize, u64, u64, u32, RunEnd); 25] = [
     (0, 1, 0, 16, 0, RunEnd::Done),
     (9, 1, 0, 16, 1, RunEnd::Truncated(4)),
@@ -101,7 +101,7 @@ fn frames_begin_after_other_bytes(rt: HostRuntime) {
     }
 }
 
-/// Where a whole frame is held nothing is read, and one that may not stand stays.
+/// If a whole frame is held nothing is read, and one that may not stand stays.
 #[test]
 fn a_held_frame_needs_no_reading(rt: HostRuntime) {
     let alloc = rt.alloc();

@@ -8,15 +8,15 @@ use dp_recording::{
 use std::alloc::Global;
 use std::process::Abort;
 
-/// An undo point, an undo and a chat of user 1, at the places 30, 34 and 40, and a frame of which
+/// An undo point, an undo and a chat of user 1, at the places 30, 34 and 40. Then a frame of which
 /// no message is.
 const FRAMES: [u8; 20] = [
     0x00, 0x00, 0x80, 0x01, 0x00, 0x02, 0xff, 0x01, 0x00, 0x00, 0x00, 0x02, 0x23, 0x01, 0x68, 0x69,
     0x00, 0x00, 0x14, 0x01,
 ];
 
-/// How many bytes there are, the length of the pieces, the read that fails (or 0), how many entries
-/// there are, and how the recording ends.
+/// How many bytes there are, the length of the pieces, and the read that fails (or 0). Then how
+/// many entries there are, and how the recording ends.
 static ROWS: [(usize, usize, u64, u32, RunEnd); 8] = [
     (46, 1, 0, 3, RunEnd::Done),
     (46, 47, 0, 3, RunEnd::Done),

@@ -142,8 +142,8 @@ abbrev pub IsShortStream : Option Stream → Type 0
 IsShortStream None = Unit {0}
 IsShortStream (Some stream) = length stream.commands ≤ part_limit
 
--- After so many events each history is short, and so is the reset that is being sent. Each entry
--- that goes on and each part of the reset came by an event of its own.
+-- After n events each history is short, and so is the reset that is being sent. Each entry that
+-- goes on and each part of the reset came by an event of its own.
 pub record IsShort (s : State) (n : ℕ) : Type 0 where
   pub ended : All (λ history. length history ≤ 2 * n + opening_limit) s.ended
   pub live : length s.live ≤ 2 * n + opening_limit

@@ -4,7 +4,7 @@ use Rattle.dp_epochs.specs.declared.connection.Ending.{Ending}
 use Rattle.dp_epochs.specs.declared.connection.Ending.TheVariants as ending
 use Rattle.dp_epochs.specs.declared.connection.Connection.{Connection}
 
--- a connection that ended so has ended
+-- whether a connection with this end has ended
 abbrev pub is_ended : Ending → Bool
 is_ended ending.Running = false
 is_ended (ending.Left place) = true

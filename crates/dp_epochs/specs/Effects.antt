@@ -62,8 +62,8 @@ live_after s e (Reopened conn connection) =
     (kept_by s.stream s.live)
 live_after s e other = s.live ++ entries_of e other
 
--- the connections after it, where the next entry would stand at this place: at most one is added,
--- or changed
+-- the connections after it, if the next entry would stand at this place: at most one is added, or
+-- changed
 abbrev pub connections_at : Place → List Connection → Effect → List Connection
 connections_at place connections (TakesUp conn connection) =
     slice_set connections (conn - 1) (record connection { acknowledged = place.epoch })
@@ -90,8 +90,8 @@ stream_after e stream (Dropped conn connection) = None
 stream_after e stream (Reopened conn connection) = None
 stream_after e stream other = stream
 
--- what is answered, where the next entry would stand at this place and so many connections were
--- given out
+-- what is answered, if the next entry would stand at this place and `given` connections were given
+-- out
 abbrev pub answer_at : Place → ℕ → Effect → Reply
 answer_at place given (Nothing answer) = answer
 answer_at place given (TakesUp conn connection) = reply.Noted
@@ -158,8 +158,8 @@ pub record IsSaid (s : State) (e : Event) (conn : ℕ) (connection : Connection)
   pub at : IsOpenAt s conn connection
   pub decided : decided s conn connection (own_message e) ≡ d
 
--- the event is this message about resets of this connection, which has taken up the live epoch and
--- whose user is operator, and that becomes of it
+-- The event is this message about resets of this connection, and this becomes of it. The connection
+-- has taken up the live epoch, and its user is operator.
 pub record IsReset (s : State) (e : Event) (conn : ℕ) (connection : Connection) (m : Msg)
     (d : Decision) : Type 0 where
   pub said : IsSaid s e conn connection d

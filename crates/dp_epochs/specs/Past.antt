@@ -129,9 +129,9 @@ pub record Refuses (old : Past) (e : Event) (refusal answer : Reply) (new : Past
   pub reply : answer ≡ refusal
   pub after : new ≡ refused old e
 
--- What may be answered, by whether a put has failed before: then that fault, for ever; else that
--- the session has ended, exactly if there is no room; else the event's own answer, or the first
--- fault.
+-- What may be answered, by whether a put has failed before. If one has, it is that fault, for ever.
+-- Else it is that the session has ended, exactly if there is no room. Else it is the event's own
+-- answer, or the first fault.
 abbrev pub Serves : Option ℕ → Past → Event → Reply → Past → Type 0
 Serves (Some first) old e answer new = Refuses old e (StoreFault first) answer new
 Serves None old e answer new =

@@ -7,8 +7,9 @@ use Rattle.dp_messages.specs.Messages.{kind_of, payload_of}
 use Rattle.dp_epochs.specs.declared.event.Event.{Event}
 use Rattle.dp_epochs.specs.declared.event.Event.TheVariants.{Open, Say, Close}
 
--- The bytes of the row that is written for an event: 0, the flag and the name of an Open; 3, the
--- connection, the kind and the payload of a Say; 2 and the connection of a Close.
+-- The bytes of the row that is written for an event. Of an Open they are 0, the flag and the name.
+-- Of a Say they are 3, the connection, the kind and the payload. Of a Close they are 2 and the
+-- connection.
 abbrev pub row_of : Event → List ℕ
 row_of (Open name registered) = one_byte 0 ++ flag_byte registered ++ name
 row_of (Say conn m) = one_byte 3 ++ four_bytes conn ++ one_byte (kind_of m) ++ payload_of m

@@ -29,16 +29,16 @@ use Rattle.dp_epochs.specs.declared.decision.Decision.{Decision}
 use Rattle.dp_epochs.specs.declared.decision.Decision.TheVariants as decision
 use Rattle.dp_acl.specs.Opening.{server_entry, kept_entries, part_limit, opening}
 
--- A reset that is being sent: the connection that sends it, the commands so far, and the place of
--- the live history from which on entries are kept, if it names one.
+-- A reset that is being sent: the connection that sends it, and the commands so far. If it names
+-- one, the place of the live history from which on entries are kept.
 pub record Stream : Type 0 where
   pub owner : ℕ
   pub commands : List Draw
   pub place : Option ℕ
 
--- The histories of the epochs before, the live history, the connections in the order of their
--- Opened (the first has number 1), the reset that is being sent, and the answer to each event so
--- far.
+-- The histories of the epochs before, the live history, and the connections in the order of their
+-- Opened (the first has number 1). Then the reset that is being sent, and the answer to each event
+-- so far.
 pub record State : Type 0 where
   pub ended : List (List Entry)
   pub live : List Entry

@@ -62,8 +62,7 @@ pub enum Effect {
 }
 
 impl Effect {
-    /// What is answered, where the next entry would stand here and so many connections were given
-    /// out.
+    /// What is answered, if the next entry would stand here and `given` connections were given out.
     pub fn reply(self, here: Place, given: u32) -> Reply
         requires given { given < 2 ^ 32 - 1 }
         requires epoch { here.epoch < 2 ^ 32 - 1 }

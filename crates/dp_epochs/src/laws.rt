@@ -100,8 +100,8 @@ pub fn histories_are_marked()
     ensures { (past : Past) → AreHistories (state_of past) }
 {}
 
-/// In the history of each epoch every entry after those with which it opened is the server's, or
-/// its user was permitted to send its message by the entries before it.
+/// In the history of each epoch an entry after those with which it opened is the server's. Or its
+/// user was permitted to send its message by the entries before it.
 pub fn histories_are_permitted()
     ensures { (past : Past) (epoch : ℕ) → ArePermitted (history_of (state_of past) epoch) }
 {}

@@ -1,4 +1,4 @@
-//! What comes to a session and what it answers, the rows that are kept of it, its state, what
+//! What comes to a session, what it answers, and the rows that are kept of it. Its state, what
 //! events do to it, and laws of it.
 //!
 //! The rule: docs/protocol.md, "The session".

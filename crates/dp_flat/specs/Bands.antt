@@ -34,8 +34,8 @@ abbrev pub chunk_pixels : Option (List ℕ) → List (List ℕ) → List (List �
 chunk_pixels (Some color) pixels = replicate (length pixels) color
 chunk_pixels None pixels = pixels
 
--- the colours of the tiles of a row of tiles, and else their bytes, tile after tile, are those of
--- the picture, as far as it goes
+-- The colours of the tiles of a row of tiles are those of the picture, as far as it goes. Of a tile
+-- without a colour its bytes are, tile after tile.
 abbrev pub IsBand : Board → ℕ → List (Option (List ℕ)) → List (List ℕ) → Type 0
 IsBand board row colors bytes =
     (col k : ℕ) → k < 4096 → tile_x col k < board.width → tile_y row k < board.height
@@ -48,7 +48,7 @@ IsLine format board row known text =
     known ≡ true → (y : ℕ) → y / 64 ≡ row → y < board.height
     → text ≡ flat_map (pixel_text_of format) (seen_row board y)
 
--- of the text of a board's picture the head and so many rows were written, but for the piece
+-- of the text of a board's picture the head and `count` rows were written, but for the piece
 abbrev pub HasRows : Format → Board → Option (List ℕ) → Option (List ℕ) → List ℕ → ℕ → Type 0
 HasRows format board old new piece count =
     GrowsBefore old new piece

@@ -15,8 +15,8 @@ pub record DrawnBand : Type 0 where
   pub colors : List (Option (List ℕ))
   pub bytes : List (List ℕ)
 
--- there is room for a row of tiles, going down into groups so deep, and it is drawn there where
--- that is said
+-- there is room for a row of tiles, going down into groups so deep, and it is drawn there if
+-- `drawn` says so
 pub record HasBand (board : Board) (depth row : ℕ) (drawn : Bool) (memory : List Channels)
     (colors : List (Option (List ℕ))) (bytes : List (List ℕ)) : Type 0 where
   pub some : 1 ≤ depth

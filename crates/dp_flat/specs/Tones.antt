@@ -16,7 +16,7 @@ abbrev pub stretch_at : Stretch → ℕ → Channels
 stretch_at (stretches.Solid color) i = color
 stretch_at (stretches.Pixels shown) i = slice_index_or shown.now i clear
 
--- a stretch is so many pixels long; one of one colour is as long as is wanted
+-- a stretch is `count` pixels long; one of one colour is as long as is wanted
 abbrev pub IsAsLong : Stretch → ℕ → Type 0
 IsAsLong (stretches.Solid color) count = ⊤
 IsAsLong (stretches.Pixels shown) count = length shown.now ≡ count

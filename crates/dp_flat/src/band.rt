@@ -27,8 +27,8 @@ pub(crate) fn tiles_along(side: u32) -> u32
     side.div_ceil(SIDE)
 }
 
-/// Puts the bytes of a tile of this tone on white, whose pixels are the first ones of this buffer,
-/// and gives its colour, if it is of one.
+/// Puts the bytes of a tile of this tone on white, and gives its colour, if it is of one. The
+/// tile's pixels are the first ones of this buffer.
 fn put_tile(tone: Tone, buffer: &[Pixel], bytes: &mut [Rgb]) -> Option<Rgb>
     requires { length bytes.old ≤ length buffer.now }
     ensures { (k : ℕ) → k < length bytes.old

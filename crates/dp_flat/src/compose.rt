@@ -34,8 +34,8 @@ pub(crate) fn depth_of<V: BoardView>(board: &V) -> usize
     }
 }
 
-/// Draws a tile of the picture before it is laid on white, going down into groups so deep. Where
-/// the tone is mixed, the first pixels of this memory are its pixels.
+/// Draws a tile of the picture before it is laid on white, going down into groups so deep. If the
+/// tone is mixed, the first pixels of this memory are its pixels.
 pub(crate) fn draw_tile<V: BoardView>(
     board: &V,
     depth: usize,
@@ -90,8 +90,8 @@ fn compose_tile<V: BoardView>(
 }
 
 /// Lays a row of the list on a tile: a paint row by its pixels, and a group by what its own rows
-/// make from clear. Where the tile then shows just the pixels of a paint row, these are read into
-/// the tile's own buffer.
+/// make from clear. If the tile then shows just the pixels of a paint row, these are read into the
+/// tile's own buffer.
 #[cycle(composing)]
 fn lay_row<V: BoardView>(
     board: &V,

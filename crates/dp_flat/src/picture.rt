@@ -65,9 +65,8 @@ impl From<AllocError> for PictureEnd {
 ///
 /// # Errors
 ///
-/// `Memory` if memory for two tiles, or for 17 if a row is a group, or for the bytes of a row
-/// of tiles is refused: nothing was written. `Failed` if the sink failed: a prefix of the file
-/// was written.
+/// `Memory` if memory is refused for two tiles (17 if a row is a group) or for the bytes of a row
+/// of tiles: nothing was written. `Failed` if the sink failed: a prefix of the file was written.
 pub fn write_p6<V: BoardView, S: Sink>(
     alloc: Global,
     board: &V,
@@ -88,9 +87,8 @@ pub fn write_p6<V: BoardView, S: Sink>(
 ///
 /// # Errors
 ///
-/// `Memory` if memory for two tiles, or for 17 if a row is a group, or for the bytes of a row
-/// of tiles is refused: nothing was written. `Failed` if the sink failed: a prefix of the file
-/// was written.
+/// `Memory` if memory is refused for two tiles (17 if a row is a group) or for the bytes of a row
+/// of tiles: nothing was written. `Failed` if the sink failed: a prefix of the file was written.
 pub fn write_p3<V: BoardView, S: Sink>(
     alloc: Global,
     board: &V,
@@ -107,7 +105,7 @@ pub fn write_p3<V: BoardView, S: Sink>(
     write_picture(alloc, Format::P3, board, out)
 }
 
-/// Writes the picture of the board as a P6 file. So many workers draw a row of tiles each at the
+/// Writes the picture of the board as a P6 file. `workers` workers draw a row of tiles each at the
 /// same time, if 0 is 1. A row of tiles passes the gate by its place among those that are drawn
 /// with it. A piece of at most 49152 bytes is written at a time.
 ///
@@ -233,8 +231,8 @@ fn put_by<R: Threads + Sync, V: BoardView + Sync, S: Sink, G: Gate>(
     put_all(out, piece.as_slice())
 }
 
-/// Adds the text of a row of tiles that is drawn in a job to the piece, and writes the piece where
-/// it is full.
+/// Adds the text of a row of tiles that is drawn in a job to the piece, and writes the piece if it
+/// is full.
 fn put_job<V: BoardView, S: Sink>(
     format: Format,
     board: &V,
@@ -462,7 +460,7 @@ fn put_chunk<S: Sink>(
     Ok(())
 }
 
-/// Writes the piece, if it has no room for so many bytes.
+/// Writes the piece, if it has no room for `count` bytes.
 fn make_room<S: Sink>(count: usize, piece: &mut Piece, out: &mut S) -> Result<(), Failed>
     requires { count ≤ PIECE_BYTES }
     ensures room { OnOk result (array_vec_len piece.new + count ≤ PIECE_BYTES) }

@@ -130,7 +130,7 @@ impl<'a, V: BoardView + Sync> Job for BandJob<'a, V> {
     }
 }
 
-/// Memory for so many rows of tiles.
+/// Memory for the rows of tiles that are drawn at the same time.
 #[tactic(auto, using(crate::proofs::Jobs::pushed))]
 pub(crate) fn make_jobs<'a, V: BoardView>(
     alloc: Global,
@@ -181,8 +181,8 @@ fn draw_jobs<R: Threads + Sync, V: BoardView + Sync, G: Gate>(
     par_each(rt, jobs.len() as u32, gate, jobs);
 }
 
-/// Has a row of tiles be drawn in the job of a slot, with those after it in the jobs after that, if
-/// the slot is the first one. Else it was drawn with the row of the first slot.
+/// If the slot is the first one, has a row of tiles be drawn in its job. Those after it are drawn
+/// in the jobs after that. Else the row was drawn with that of the first slot.
 pub(crate) fn make_ready<R: Threads + Sync, V: BoardView + Sync, G: Gate>(
     rt: &R,
     gate: &G,
@@ -204,7 +204,7 @@ pub(crate) fn make_ready<R: Threads + Sync, V: BoardView + Sync, G: Gate>(
     }
 }
 
-/// The slot after a slot, of so many: the first one after the last.
+/// The slot after a slot, of `count` slots: the first one after the last.
 pub(crate) fn next_slot(slot: usize, count: usize) -> usize
     requires { slot < count }
     ensures inside { result < count }

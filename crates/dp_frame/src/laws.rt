@@ -43,7 +43,7 @@ pub fn first_frame()
         → (others : List FrameParts) × (frames ≡ f ∷ others) × Splits bytes others rest }
 {}
 
-/// Where more bytes come, the frames so far stay, and the rest with those bytes has the frames that
+/// If more bytes come, the frames so far stay, and the rest with those bytes has the frames that
 /// come after them.
 pub fn further_frames()
     ensures { (bytes more : List ℕ) (frames others : List FrameParts) (rest last : List ℕ)

@@ -1,5 +1,6 @@
-//! The frames of a stream of bytes: a frame is the length of its payload in two bytes (big-endian,
-//! the four bytes of the header not counted), a type byte, a context byte, and the payload.
+//! The frames of a stream of bytes. A frame is the length of its payload in two bytes, a type byte,
+//! a context byte, and the payload. The length is big-endian, and doesn't count the four bytes of
+//! the header.
 #![tactic(auto)]
 
 mod frame;

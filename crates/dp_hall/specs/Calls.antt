@@ -37,7 +37,7 @@ pub record IsSound {E O M : Type 0} (may : M → E → O → M → Type 0) (v : 
   -- the names that it knows of: its own, those joined into it, and those that these made
   pub distinct : AreDistinct (names v)
   pub fresh : (k : ℕ) (more : List ℕ) → IsIn (v.name ++ k ∷ more) (names v ++ v.made) → k < v.splits
-  -- so many of them were made by itself
+  -- it made `splits` of them itself
   pub counted : v.splits ≡ children v.name v.made
 
 -- an act: what was seen grows, by others' entries and then by this one
@@ -113,8 +113,8 @@ pub record Asks {E O M : Type 0} (v w : View E O M) : Type 0 where
   pub more : v.known ≤ length w.seen
   pub same : w ≡ record v { seen = w.seen; known = length w.seen }
 
--- a split: the seat that stays made a name, which no seat that it knows of has had; the new one
--- has that name, and has seen as much
+-- A split: the seat that stays made a name, which no seat that it knows of has had. The new one has
+-- that name, and has seen as much.
 pub record SplitsInto {E O M : Type 0} (v stays given : View E O M) : Type 0 where
   pub stays_is : stays ≡ record v { made = v.made ++ given.name ∷ []; splits = v.splits + 1 }
   pub name : given.name ≡ v.name ++ v.splits ∷ []

@@ -110,7 +110,8 @@ impl<M: Machine> Hall<M> {
         outcome
     }
 
-    /// The same, but it wakes nobody: `wake` does. Several acts in a row need one wake.
+    /// Acts an event as `act` does, but wakes nobody: `wake` does. Several acts in a row need one
+    /// wake.
     ///
     /// # Errors
     ///
@@ -131,7 +132,7 @@ impl<M: Machine> Hall<M> {
 
     /// Acts the events one after the other in one turn, so that nobody acts between them. It stops
     /// after an outcome that the listener lets nothing follow, and gives it. It wakes nobody:
-    /// `wake` does. Where the count of acts would pass the greatest `u64`, it waits for good, and
+    /// `wake` does. If the count of acts would pass the greatest `u64`, it waits for good, and
     /// changes nothing.
     pub fn act_each<R: Wait, L: Listener<M>>(
         &self,
@@ -243,7 +244,7 @@ impl<M: Machine> Hall<M> {
         a
     }
 
-    /// The same, in place of the first seat: for a seat that is lent, as to the closure of a
+    /// Joins two seats in place of the first one: for a seat that is lent, as to the closure of a
     /// thread.
     pub fn join_into(&self, seat: &mut Seat<M>, other: Seat<M>)
         requires { IsOf self.now seat.old × IsOf self.now other }

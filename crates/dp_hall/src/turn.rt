@@ -180,8 +180,8 @@ fn step<M: Machine>(mut machine: Box<M>, event: &M::Event) -> (StoredOf<M>, Outc
     (Stored { machine, last }, outcome)
 }
 
-/// Takes the turn, with the machine in hand, for so many acts. Where the count would pass its end
-/// by them, the turn is given back and the call waits for good.
+/// Takes the turn, with the machine in hand, for this number of acts. If the count would pass its
+/// end by them, the turn is given back and the call waits for good.
 fn begin<M: Machine, R: Wait>(rt: &R, table: &HallTable<M>, token: &mut TableSeat<M>, acts: usize)
     requires table { IsAt table.now.table_id token.old.table_id }
     requires idle { IsIdle token.old }

@@ -23,7 +23,7 @@ frames-rest at entries =
     ap (drop (length (frames_of (take at entries)))) (frames-split at entries)
     ∙ drop-append_seam (frames_of (take at entries)) (frames_of (drop at entries))
 
--- so many of the first frames
+-- the first `count` frames
 frames-first : (count : ℕ) (entries : List Entry)
     → take (length (frames_of (take count entries))) (frames_of entries)
     ≡ frames_of (take count entries)
@@ -31,7 +31,7 @@ frames-first count entries =
     ap (take (length (frames_of (take count entries)))) (frames-split count entries)
     ∙ take-append_seam (frames_of (take count entries)) (frames_of (drop count entries))
 
--- how many bytes so many frames from a place on have
+-- how many bytes the `count` frames from a place on have
 frames-size : (at count : ℕ) (entries : List Entry)
     → length (frames_of (take (at + count) entries))
     ≡ length (frames_of (take at entries)) + length (frames_of (take count (drop at entries)))
@@ -40,7 +40,7 @@ frames-size at count entries =
     ∙ ap length (flat_map-append entry_bytes (take at entries) (take count (drop at entries)))
     ∙ length-append (frames_of (take at entries)) (frames_of (take count (drop at entries)))
 
--- the frames of so many entries from a place on
+-- the frames of the `count` entries from a place on
 pub frames-cut : (at count : ℕ) (entries : List Entry)
     → take (length (frames_of (take (at + count) entries)) - length (frames_of (take at entries)))
     (drop (length (frames_of (take at entries))) (frames_of entries))
@@ -57,7 +57,7 @@ length-ends n [] = refl
 length-ends n (entry ∷ entries) =
     ap suc (length-ends (n + length (entry_bytes entry)) entries)
 
--- where the frame after so many ends
+-- where the frame after the first i ends
 pub ends-at : (n : ℕ) (entries : List Entry) (i : ℕ) → i < length entries
     → get_or (ends_from n entries) i 0 ≡ n + length (frames_of (take (i + 1) entries))
 ends-at n [] i within = omega (arith, within)
@@ -108,7 +108,7 @@ frames-appended old new entries entry bytes ends are =
           ∙ sym (ends-more 0 entries entry);
     }
 
--- where the last of so many frames from a place on ends
+-- where each of the first `most` frames from a place on ends
 pub ends-part : (at most count : ℕ) (entries : List Entry) → at + most ≤ length entries
     → count < most
     → get_or (take most (drop at (ends_from 0 entries))) count 0

@@ -35,7 +35,7 @@ drop-both (suc n) (x ∷ xs) ys =
 
 -- ---- frames that were made
 
--- so many stand before the end
+-- there is one end for each frame
 pub ends-count : (frames : Frames) (written : List Entry) → AreFramesOf frames written
     → length frames.ends ≡ length written
 ends-count frames written are = ap length are.ends ∙ length-ends 0 written

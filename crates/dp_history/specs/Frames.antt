@@ -28,7 +28,7 @@ pub record AreFramesOf (frames : Frames) (entries : List Entry) : Type 0 where
 abbrev pub page_limit : ℕ
 page_limit = 65536
 
--- so many frames were put after what was there: one, or no more bytes than a page may have
+-- `count` frames were put after what was there: one, or no more bytes than a page may have
 abbrev pub IsShort : ℕ → List ℕ → List ℕ → Type 0
 IsShort count old new = (count ≡ 1) ⊎ (length new ≤ length old + page_limit)
 

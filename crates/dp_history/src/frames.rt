@@ -63,8 +63,8 @@ impl HistoryFrames {
         }
     }
 
-    /// Adds the frames from a place on at the end of the bytes, at most this many, and no more than
-    /// 65,536 bytes of them unless it is one. It answers how many.
+    /// Adds the frames from a place on at the end of the bytes, at most this many. They have no
+    /// more than 65,536 bytes, unless it is one. It answers how many.
     ///
     /// # Errors
     ///
@@ -98,7 +98,7 @@ impl HistoryFrames {
     }
 
     /// Keeps the frames of those entries from a place on that go over into an epoch, which opens
-    /// with so many entries, these last. It takes no memory.
+    /// with `opens_with` entries, these last. It takes no memory.
     pub fn keep(&mut self, journal: &[Event], live: &[HistoryItem], at: usize, opens_with: usize)
         requires said { All (IsIn journal.now) live.now }
         requires made { AreMadeOf self.old (map (entry_in journal.now) live.now) }

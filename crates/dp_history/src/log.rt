@@ -103,8 +103,8 @@ impl FrameLog {
         if at == 0 { 0 } else { self.ends[at - 1] }
     }
 
-    /// Adds the frames from a place on at the end of the bytes, at most this many, and no more than
-    /// `PAGE_BYTES` bytes of them unless it is one. It answers how many.
+    /// Adds the frames from a place on at the end of the bytes, at most this many. They have no
+    /// more than `PAGE_BYTES` bytes, unless it is one. It answers how many.
     ///
     /// # Errors
     ///

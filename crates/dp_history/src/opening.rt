@@ -132,8 +132,8 @@ impl Opening {
         Ok(())
     }
 
-    /// Adds those of the entries, which are kept beside the journal, that go on: so many, for which
-    /// memory is taken at once. The rights stay.
+    /// Adds those of the entries, which are kept beside the journal, that go on. Memory for `count`
+    /// entries is taken at once. The rights stay.
     pub fn add_kept(
         &mut self,
         journal: &[Event],

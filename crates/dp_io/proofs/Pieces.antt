@@ -73,7 +73,8 @@ more_taken limit source left rest earlier piece within consumes few h =
     (last_taken limit source left rest earlier piece piece [] (sym (append-nil piece)) within
     (λ some. omega (arith, some)) consumes few h)
 
--- after a piece that is done with, another is taken: of its bytes so many count as there is room
+-- after a piece that is done with, another is taken: of its bytes as many count as there is room
+-- for
 pub piece_taken : (limit room : ℕ) (source left rest : Option (List ℕ))
     (earlier counted piece : List ℕ)
     → length (earlier ++ counted) + room ≡ limit → Consumes left rest piece → length piece ≤ 4096

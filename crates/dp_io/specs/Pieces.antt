@@ -6,9 +6,9 @@ use Rattle.std.specs.Io.KnownBytes.{Consumes}
 abbrev pub piece_limit : ℕ
 piece_limit = 4096
 
--- What was taken of a source, of which these bytes are left and so many count: `earlier`, and then
--- a piece. Of the piece the bytes `counted` count. The others, `cut`, come only after as many as
--- count.
+-- What was taken of a source, of which these bytes are left and `limit` bytes count: `earlier`, and
+-- then a piece. Of the piece the bytes `counted` count. The others, `cut`, come only after as many
+-- as count.
 pub record TookPieces (limit : ℕ) (source left : Option (List ℕ)) (earlier counted cut : List ℕ) :
     Type 0 where
   pub taken : Consumes source left ((earlier ++ counted) ++ cut)

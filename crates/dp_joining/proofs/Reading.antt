@@ -171,7 +171,7 @@ pulled_none old now readable done kept = record {
   fault = kept;
 }
 
--- reading it ended so
+-- reading it ended with this
 shows_end : (s : Source) (bytes : List ℕ) (left : Option (List ℕ)) (before : List Entry)
     (end : ReadEnd LinkFlaw) → IsReadable s → HasGiven s bytes before → is_closed before ≡ false
     → EndsReading StandsOnLink IsFlaw s.reader.first s.reader.limit bytes left before end

@@ -28,7 +28,7 @@ use Rattle.dp_joining.proofs.Along.{takeable-append}
 use Rattle.dp_joining.proofs.Moving.{fault_matches_from, faultless_twice, reading_fault}
 use Rattle.dp_joining.proofs.Reading.{reads_none, reads_then, reads_twice, stops_here}
 
--- so many entries are taken
+-- `count` entries are taken
 pub record Taking (old now : Seen) (count : ℕ) : Type 0 where
   pub given : List Entry
   pub reads : ReadsOn old.source now.source given

@@ -25,20 +25,20 @@ abbrev pub is_welcome : Msg → Bool
 is_welcome (msg.Control (Welcome version user epoch at)) = true
 is_welcome m = false
 
--- the message may come with so many before it: first a Welcome or a Disconnect, and then those of
--- kinds from 32 on, Pings and Disconnects
+-- the message may come with `before` messages before it: first a Welcome or a Disconnect, and then
+-- those of kinds from 32 on, Pings and Disconnects
 abbrev pub may_come : ℕ → Msg → Bool
 may_come before m =
     if before == 0
     then is_welcome m || is_disconnect m
     else (nat_le 32 (kind_of m) || is_ping m || is_disconnect m)
 
--- with so many frames before it, the frame stands for the entry: it carries it, and such a message
+-- with `before` frames before it, the frame stands for the entry: it carries it, and such a message
 -- may come
 abbrev pub StandsOnLink : ℕ → FrameParts → Entry → Type 0
 StandsOnLink before frame entry = Carries frame entry × IsTrue (may_come before entry.msg)
 
--- with so many frames before it, the frame may not stand: it carries no message, or one of this
+-- with `before` frames before it, the frame may not stand: it carries no message, or one of this
 -- kind that may not come
 abbrev pub IsFlaw : ℕ → FrameParts → LinkFlaw → Type 0
 IsFlaw before frame (NoMessage why) = IsPayloadRefused frame.kind frame.body why

@@ -86,9 +86,9 @@ chats_text lines =
 
 -- ---- a client
 
--- a client over a link: its state, the lines of chat of all entries that it has taken, over every
--- epoch, what it has printed, what it has written to the link, and the commands that it may have
--- drawn
+-- A client over a link: its state, and the lines of chat of all entries that it has taken, over
+-- every epoch. Then what it has printed, what it has written to the link, and the commands that it
+-- may have drawn.
 pub record Joining : Type 0 where
   pub client : State
   pub chats : List ChatLine

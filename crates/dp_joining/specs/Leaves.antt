@@ -22,8 +22,8 @@ use Rattle.dp_joining.specs.Outcomes.{AllAsk, BeginsWith, IsJoinStep, JoinComesT
 use Rattle.dp_script.specs.Limits.{lines_limit}
 use Rattle.dp_joining.specs.Steps.{DrawsFew, HasGiven, Seen, Stands}
 
--- What a run sees of its devices before and after it: the bytes that are left of the script, and
--- those of the link at the start; the bytes on the output and those written to the link; and the
+-- What a run sees of its devices before and after it. The bytes that are left of the script, and
+-- those of the link at the start. The bytes on the output and those written to the link, and the
 -- counters of draws and of tiles.
 pub record Traffic : Type 0 where
   pub input : Option (List ℕ)
@@ -39,8 +39,8 @@ pub record Traffic : Type 0 where
 abbrev pub WhereKnown : Traffic → (List ℕ → List ℕ → Type 0) → Type 0
 WhereKnown t P = IfSome t.input (λ input. IfSome t.link (λ link. P input link))
 
--- the text and the bytes of what the script and the link come to were written, which ends so, and
--- no more was drawn than is due
+-- What the script and the link come to ends with this. Its text and its bytes were written, and no
+-- more was drawn than is due.
 abbrev pub WritesAll : List ℕ → Traffic → RunEnd → Type 0
 WritesAll name t end =
     WhereKnown t (λ input link. (outcome : JoinOutcome) × JoinComesTo name input link outcome
@@ -56,8 +56,8 @@ IsParting input begun progress parting =
     × (j : Joining) × (left : List Entry) × (progress ≡ Goes j left)
     × (parting ≡ farewell_bytes j.client.user))
 
--- prefixes of them were written: of what some of the first lines come to, with some of the first
--- entries of the link; and no more was drawn than is due then
+-- Prefixes of them were written: of what some of the first lines come to, with some of the first
+-- entries of the link. No more was drawn than is due then.
 pub record WritesPart (name : List ℕ) (t : Traffic) (input link : List ℕ) : Type 0 where
   pub begun : List Line
   pub prefix : AreFirstOf IsJoinStep (seen lines_limit input) begun
@@ -86,8 +86,8 @@ pub record WritesTaken (name : List ℕ) (t : Traffic) (input link : List ℕ) :
   pub written : Appends t.sent_old t.sent_now joining.written
   pub counts : DrawsFew t.counters joining.due
 
--- What was taken of a script whose bytes are known holds no cause to end, but for the last bytes of
--- it, at most a piece of 4096.
+-- If the script's bytes are known, what was taken of it holds no cause to end. The last bytes of
+-- it, at most a piece of 4096, may hold one.
 abbrev pub ReadsNoFurther : Option (List ℕ) → Option (List ℕ) → Type 0
 ReadsNoFurther input left =
     IfSome input (λ bytes. TookWithin (HoldsNoCause IsJoinStep lines_limit) 4096 bytes left)
@@ -117,7 +117,7 @@ pub record IsWelcome (name : List ℕ) (link : Option (List ℕ)) (first start :
   pub has_given : IfSome link (λ bytes. HasGiven start.source bytes (welcome ∷ []))
   pub still : is_closed (welcome ∷ []) ≡ false
 
--- What a run that ends so leaves.
+-- What a run with this end leaves.
 abbrev pub JoinLeaves : List ℕ → Traffic → RunEnd → Type 0
 JoinLeaves name t Done = IsAtEnd t.left × WritesAll name t Done
 JoinLeaves name t (BadLine n) = WritesAll name t (BadLine n)
@@ -144,7 +144,7 @@ pub record OthersStay (old now : Counts) : Type 0 where
   pub source : now.source ≡ old.source
   pub sink : now.sink ≡ old.sink
 
--- Which counts of faults change in a run that ends so: that of the fault rises, and each other
+-- Which counts of faults change in a run with this end: that of the fault rises, and each other
 -- stays.
 abbrev pub FaultMatchesJoin : Counts → Counts → RunEnd → Type 0
 FaultMatchesJoin old now ReadFault = Rose old.input now.input × OthersStay old now

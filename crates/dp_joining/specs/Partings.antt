@@ -20,7 +20,7 @@ SaysFarewell old now before after user end =
     × Rose before after × (before ≤ after))
     ⊎ ((end ≡ run.Memory) × GrowsByPrefix old now (farewell_bytes user) × (after ≡ before))
 
--- nothing more is written, and the run ends so
+-- nothing more is written, and the run ends as is due
 pub record IsSilent (old now : Option (List ℕ)) (before after : ℕ) (due end : RunEnd) : Type 0 where
   pub end_is : end ≡ due
   pub bytes : now ≡ old

@@ -77,8 +77,8 @@ pub record JoinsOver {R T : Type 0} (left : R → Option (List ℕ)) (read_fault
     sink = faults tx_now;
   }) end
 
--- What a run leaves: the wire failed, or had no memory for a link, and all else stays; or the run
--- was made over a link, and the wire's count of faults stays.
+-- What a run leaves. Either the wire failed, or had no memory for a link, and all else stays. Or
+-- the run was made over a link, and the wire's count of faults stays.
 abbrev pub RunLeaves : {R T : Type 0} → (R → Option (List ℕ)) → (R → ℕ) → (T → Option (List ℕ))
     → (T → ℕ) → List ℕ → Option (Links R T) → Option (Links R T) → ℕ → ℕ → Ends → RunEnd → Type 0
 RunLeaves left read_faults held faults name links links_now before after ends end =

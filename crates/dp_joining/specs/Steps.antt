@@ -102,9 +102,9 @@ pub record GivesNone (old now : Source) (stop : JoinStop) : Type 0 where
 
 -- ---- the client
 
--- What clauses see of a client over a link and of its output: the client, the lines of chat that it
--- keeps, what was printed and what was written to the link, if that is known, with counts of
--- faults, the link's source, and the counters of draws and of tiles.
+-- What clauses see of a client over a link and of its output: the client, and the lines of chat
+-- that it keeps. What was printed and what was written to the link, if that is known, with counts
+-- of faults. Then the link's source, and the counters of draws and of tiles.
 pub record Seen : Type 0 where
   pub client : State
   pub chats : Buffer ChatLine

@@ -9,7 +9,7 @@ use Rattle.dp_joining.specs.declared.stops.JoinStop.{JoinStop}
 use Rattle.dp_joining.specs.declared.stops.JoinStop.TheVariants as stop
 use Rattle.dp_joining.specs.Outcomes.{link_end}
 
--- what stops it if reading its link ended so
+-- what stops it if reading its link ended with this
 abbrev pub stop_of : ReadEnd LinkFlaw → JoinStop
 stop_of read.ReadFault = stop.LinkFault
 stop_of (read.Truncated at) = stop.NoEntry cause.Closed

@@ -56,7 +56,7 @@ impl Standing for JoinStanding {
     }
 }
 
-/// Whether the message may come with so many before it.
+/// Whether the message may come with `before` messages before it.
 fn may_come(before: u64, msg: &Msg) -> bool
     ensures { result ≡ may_come before msg.now }
 {

@@ -115,7 +115,7 @@ impl<R: Source, S: Sink> Joiner<R, S> {
         print_line(self.alloc, line, output)
     }
 
-    /// Takes so many entries of the link.
+    /// Takes `count` entries of the link.
     fn take<O: Sink, D: Ledger, T: Ledger>(
         &mut self,
         count: u32,
@@ -146,7 +146,7 @@ impl<R: Source, S: Sink> Joiner<R, S> {
         Ok(())
     }
 
-    /// Takes an entry. Where it opens an epoch, the Ack goes out over the link first.
+    /// Takes an entry. If it opens an epoch, the Ack goes out over the link first.
     fn take_entry<O: Sink, D: Ledger, T: Ledger>(
         &mut self,
         entry: &Entry,

@@ -35,7 +35,7 @@ pub fn one_outcome()
 }
 
 /// However a run over a link ends, what was printed and what was written are prefixes of what the
-/// script and the link come to, and no more was drawn than is due.
+/// script and the link come to. No more was drawn than is due.
 pub fn begun_is_due()
     ensures { (name : List ℕ) (t : Traffic) (end : RunEnd) → JoinLeaves name t end
         → WhereKnown t (BeginsDue name t) }

@@ -36,16 +36,16 @@ pub struct Joined<R, S> {
     pub tx: S,
 }
 
-/// Greets the server at the other end of a link by a name of at most 32 bytes, and does the lines
-/// of a script, one after the other. What a line writes to the link is written before what it
+/// Greets the server at the other end of a link by a name of at most 32 bytes. Then it does the
+/// lines of a script, one after the other. What a line writes to the link is written before what it
 /// prints, and both before the next line is done. At the script's end it says that it leaves.
 ///
 /// # Errors
 ///
-/// It ends with `BadLine` at the first line that asks for nothing, with `Closed`, `BadMessage` or
-/// `Long` if a line asks for an entry more than the link gives, with `Long` also if the
-/// script has more than 64 MiB, with `ReadFault`, `WriteFault` and `LinkFault` if the script,
-/// the output and the link failed, and with `Memory` if memory ran out.
+/// It ends with `BadLine` at the first line that asks for nothing. It ends with `Closed`,
+/// `BadMessage` or `Long` if a line asks for an entry more than the link gives. `Long` comes also
+/// if the script has more than 64 MiB. It ends with `ReadFault`, `WriteFault` and `LinkFault` if
+/// the script, the output and the link failed, and with `Memory` if memory ran out.
 ///
 /// The rule: docs/protocol.md, "Joining".
 pub fn join_link<I: Source, O: Sink, R: Source + Drop, S: Sink + Drop, D: Ledger, T: Ledger>(

@@ -70,7 +70,7 @@ impl JoinStop {
     }
 }
 
-/// What stops the client if reading its link ended so.
+/// What stops the client if reading its link ended with this.
 pub(crate) fn stop_of(end: &ReadEnd<LinkFlaw>) -> JoinStop
     ensures { result ≡ stop_of end.now }
 {

@@ -39,7 +39,7 @@ up-injective n x y same = omega (arith, same)
 abbrev pub IsOld : ℕ → List ℕ → Type 0
 IsOld n xs = (h : ℕ) → n ≤ h → times h xs ≡ 0
 
--- what is not among the first ones is among all where it is among the rest
+-- what is not among the first ones is among all exactly if it is among the rest
 pub among-rest : (xs ys : List ℕ) (h : ℕ) → times h xs ≡ 0 → is_among (xs ++ ys) h ≡ is_among ys h
 among-rest xs ys h none = elim (cases_Bool (is_among ys h)) [
   | inl among ↦ is_among-some (xs ++ ys) h
@@ -48,7 +48,7 @@ among-rest xs ys h none = elim (cases_Bool (is_among ys h)) [
       (omega (arith, times-append h xs ys, times-none ys h other, none)) ∙ sym other
 ]
 
--- what is not among the last ones is among all where it is among the first
+-- what is not among the last ones is among all exactly if it is among the first
 pub among-first : (xs ys : List ℕ) (h : ℕ) → times h ys ≡ 0
     → is_among (xs ++ ys) h ≡ is_among xs h
 among-first xs ys h none = elim (cases_Bool (is_among xs h)) [

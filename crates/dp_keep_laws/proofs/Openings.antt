@@ -221,7 +221,7 @@ opening-shows law epoch history present list =
     ap replay (sym (append-nil (opening epoch history present list [])))
     ∙ openings_go_on law epoch history present list [] []
 
--- what an epoch opens with, without what it keeps: a mark that carries so many, and more
+-- what an epoch opens with, without what it keeps: a mark that carries the number `count`, and more
 abbrev pub opening_front : ℕ → ℕ → List Entry → List ℕ → List Draw → List Entry
 opening_front epoch count history present list =
     server_entry (ResetMark epoch count)

@@ -19,8 +19,8 @@ ghost use Rattle.dp_keep_laws.specs.Worked.{keeping_journal, older_stroke, its_u
 use dp_board::{others_do_not_count, prefixes_without_points};
 use dp_msg_draw::Draw;
 
-/// The end of a history that moves no group of before it is drawn as it is by itself, on what the
-/// history before it showed, from the depth of undo on that was in force there.
+/// The end of a history that moves no group of before it is drawn as it is by itself. It is drawn
+/// on what the history before it showed, from the depth of undo that was in force there.
 pub fn suffixes_stand_alone<B, Op>()
     ensures commands { SuffixesStandAlone Op }
     ensures boards { SuffixesShowAlone B Op }
@@ -43,8 +43,8 @@ pub fn resets_show_their_commands()
     prefixes_without_points::<Draw>();
 }
 
-/// The replay of an opening followed by more is what the opening keeps and those more, replayed on
-/// the board that the commands of the reset draw, from the depth of undo that was in force before.
+/// An opening followed by more is replayed as what it keeps and those more, on the board that the
+/// commands of the reset draw. That begins at the depth of undo that was in force before.
 pub fn openings_go_on()
     ensures { (epoch : ℕ) (history : List Entry) (present : List ℕ) (commands : List Command)
         (kept more : List Entry)
@@ -55,9 +55,9 @@ pub fn openings_go_on()
     prefixes_without_points::<Draw>();
 }
 
-/// Where a history may be cut at a place, what a reset keeps from there on shows what the history
-/// shows, drawn on what the history showed at the place. So does each opening of an epoch with
-/// these entries whose commands draw that. Both go on so: with more entries they show what the
+/// If a history may be cut at a place, what a reset keeps from there on shows what the history
+/// shows. It is drawn on what the history showed at the place. So does each opening of an epoch
+/// with these entries whose commands draw that. Both go on so: with more entries they show what the
 /// history shows with these.
 pub fn kept_entries_show_the_same()
     ensures boards { (history more : List Entry) (place : ℕ) → MayBeCut place history more
@@ -75,18 +75,18 @@ pub fn kept_entries_show_the_same()
     openings_go_on();
 }
 
-/// Where from a place on nothing was undone or redone, and no depth of undo was set, a history may
-/// be cut at the place. So each history may be cut at its end.
+/// If from a place on nothing was undone or redone, and no depth of undo was set, a history may be
+/// cut at the place. So each history may be cut at its end.
 pub fn histories_may_be_cut()
     ensures undone { (history more : List Entry) (place : ℕ)
         → UndoNothing (drop place history ++ more) → MayBeCut place history more }
     ensures end { (history : List Entry) → MayBeCut (length history) history [] }
 {}
 
-/// A reset that keeps shows the same: if the live history may be cut at the place that the reset
-/// names, and its commands draw what the history showed there, the history of the next epoch shows
-/// what the live history showed. It goes on so: with more entries it shows what the old history
-/// would show with these.
+/// A reset that keeps shows the same. The premise: the live history may be cut at the place that
+/// the reset names, and its commands draw what the history showed there. Then the history of the
+/// next epoch shows what the live history showed. It goes on so: with more entries it shows what
+/// the old history would show with these.
 pub fn keeping_shows_the_same()
     ensures same { (s : State) (conn place : ℕ) → EndsKeeping s conn place
         → MayBeCut place s.live []

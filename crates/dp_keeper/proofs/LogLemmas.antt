@@ -84,7 +84,7 @@ rows-first bytes at (suc n) [] = refl
 rows-first bytes at (suc n) (mark ∷ marks) =
     ap (λ rows. row_at bytes at mark ∷ rows) (rows-first bytes mark.end n marks)
 
--- the rows from a place on, at most so many
+-- the rows from a place on, at most `most`
 pub rows-cut : (bytes : List ℕ) (from most : ℕ) (marks : List Mark)
     → rows_from bytes (log_end 0 (take from marks)) (take most (drop from marks))
     ≡ take most (drop from (rows_from bytes 0 marks))

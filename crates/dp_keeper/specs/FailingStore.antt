@@ -7,8 +7,8 @@ use Rattle.dp_keeper.specs.declared.row.Row.{Row}
 use Rattle.dp_keeper.specs.declared.keeper.KeepError.{KeepError}
 use Rattle.dp_keeper.specs.declared.keeper.KeepError.TheVariants.{Failed, Memory}
 
--- The rows; which calls fail, by their numbers from 1, and beside those of put whether the row is
--- kept; how many calls of each were made; and how many of each failed.
+-- The rows, and which calls fail, by their numbers from 1. Beside those of put it says whether the
+-- row is kept. Then how many calls of each were made, and how many of each failed.
 pub record Failing : Type 0 where
   pub rows : List Row
   pub fails : List (ℕ × Bool)

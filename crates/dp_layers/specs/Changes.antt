@@ -65,8 +65,8 @@ set_title title row = record row { title = title }
 abbrev pub set_parent : ℕ → LayerRow → LayerRow
 set_parent parent row = record row { parent = parent }
 
--- the row may stand in the parent, which is the root or a group that is neither the row itself nor
--- below it, and first or after another row
+-- The row may stand in the parent, and there first or after another row. The parent is the root, or
+-- a group that is neither the row itself nor below it.
 abbrev pub can_stand : List LayerRow → ℕ → ℕ → ℕ → Bool
 can_stand rows id parent above =
     is_root_or_group rows parent && not (is_in rows parent id)

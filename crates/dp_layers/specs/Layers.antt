@@ -42,12 +42,12 @@ is_root_or_group rows id = id == 0 || is_group_row rows id
 abbrev pub parent_of : List LayerRow → ℕ → ℕ
 parent_of rows id = option_map_or (λ row. row.parent) (row_of rows id) 0
 
--- The row's depth is at most this: going up at most so many parents leads to the root.
+-- The row's depth is at most this: going up at most n parents leads to the root.
 unfoldable pub is_within : ℕ → List LayerRow → ℕ → Bool
 is_within zero rows id = id == 0
 is_within (suc n) rows id = id == 0 || is_within n rows (parent_of rows id)
 
--- the row is below the other one: going up at most so many parents from it meets the other
+-- the row is below the other one: going up at most n parents from it meets the other
 unfoldable pub is_below : ℕ → List LayerRow → ℕ → ℕ → Bool
 is_below zero rows id other = false
 is_below (suc n) rows id other =

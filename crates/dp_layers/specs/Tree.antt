@@ -7,9 +7,9 @@ use Rattle.dp_layers.specs.declared.row.LayerRow.{LayerRow}
 use Rattle.dp_layers.specs.Layers.{nesting_limit, row_limit, is_root_or_group, is_within, is_below}
 use Rattle.dp_layers.specs.Rows.{Row, layers_of}
 
--- Ids are different, and none is 0; each parent is the root or a present group; no row is below
--- itself, and none is nested deeper than the limit; there are at most as many rows as may stand in
--- the list; and each mode is a listed one.
+-- Ids are different, and none is 0. Each parent is the root or a present group. No row is below
+-- itself, and none is nested deeper than the limit. There are at most as many rows as may stand in
+-- the list, and each mode is a listed one.
 pub record IsLayerTree (rows : List LayerRow) : Type 0 where
   pub distinct : IsDistinct ◌==◌ (map (λ row. row.id) rows)
   pub numbered : All (λ row. row.id ≢ 0) rows

@@ -19,7 +19,7 @@ ghost use Rattle.dp_layers.specs.Rows.{
 ghost use Rattle.dp_layers.specs.Changes.{makes_paint_row, rows_after};
 ghost use Rattle.dp_layers.specs.Tree.{IsLayerTree, IsTree};
 
-/// No rows are a tree of layers, and what a command makes of a tree is one, as is a tree with
+/// No rows are a tree of layers, and what a command makes of a tree is one. So is a tree with
 /// another content in a paint row.
 pub fn trees_stay_trees<X>()
     ensures empty { IsTree {X = X} [] }

@@ -43,7 +43,7 @@ impl Rows {
         }
     }
 
-    /// The same rows once more. It costs the same whatever their number.
+    /// Another handle on the rows. It costs the same whatever their number.
     pub(crate) fn share(&self) -> Result<Rows, AllocError>
         ensures { IfOk result (λ rows. rows ≡ self.now) }
     {

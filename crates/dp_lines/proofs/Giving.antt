@@ -88,7 +88,7 @@ if_none_then (Err error) then fact = tt
 next_is : (a b : Line) (more others : List Line) → a ∷ more ≡ b ∷ others → a ≡ b
 next_is a b more others same = cc
 
--- the call says that the next line is too long exactly where it is
+-- the call says that the next line is too long exactly if it is
 pub long_next : (held : Held) (line : Line) (after : List Line)
     (r : Result (Option Line) LineError)
     → lines_from held ≡ line ∷ after

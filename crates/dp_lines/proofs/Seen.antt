@@ -20,7 +20,7 @@ use Rattle.dp_lines.proofs.OneWay.{rest_lacks}
 use Rattle.dp_lines.proofs.Pieces.{Parts, parts_of, last, next, ended_none, rest_none, ended_at}
 use Rattle.dp_lines.proofs.Pieces.{ended-append, rest-append}
 
--- a rest as a line, where it is too long
+-- a rest as a line, if it is too long
 abbrev pub if_long : List ℕ → List (List ℕ)
 if_long rest = cond (is_overlong rest) (rest ∷ []) []
 
@@ -32,7 +32,7 @@ if_any_is [] long = absurd (cc (long))
 if_any_is (byte ∷ more) long = refl
 
 -- The lines that are seen of an input of which `all` is a front: the ended ones of a longer front,
--- and what the rest adds, which is itself where it is too long.
+-- and what the rest adds, which is itself if it is too long.
 pub record Sees (limit : ℕ) (all more : List ℕ) : Type 0 where
   further : List ℕ
   tail : List ℕ → List (List ℕ)

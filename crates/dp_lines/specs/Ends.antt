@@ -12,7 +12,7 @@ pub data LinesEnd : Type 0 where
   BadLine : ℕ → LinesEnd
   TooLong : LinesEnd
 
--- the lines of a prefix of a longer input: the ended ones, and the open rest where it is too long
+-- the lines of a prefix of a longer input: the ended ones, and the open rest if it is too long
 -- already
 abbrev pub lines_of_prefix : List ℕ → List (List ℕ)
 lines_of_prefix bytes =

@@ -6,8 +6,8 @@ use Rattle.dp_lines.specs.declared.run_end.RunEnd.TheVariants.{Done, BadLine, Re
 use Rattle.dp_lines.specs.declared.run_end.RunEnd.TheVariants.{LinkFault, Memory, Long, Truncated}
 use Rattle.dp_lines.specs.declared.run_end.RunEnd.TheVariants.{BadMessage, Closed, BadHeader}
 
--- What the counts of faults of the input and the output do in a run that ends so: that of the fault
--- rises, and each other stays what it was.
+-- What the counts of faults of the input and the output do in a run with this end: that of the
+-- fault rises, and each other stays what it was.
 abbrev pub FaultMatchesEnd : ℕ → ℕ → ℕ → ℕ → RunEnd → Type 0
 FaultMatchesEnd input input_now output output_now ReadFault =
     Rose input input_now × (output_now ≡ output)

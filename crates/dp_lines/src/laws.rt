@@ -84,7 +84,7 @@ pub fn lines_seen()
         → (line : Line) × (after : List Line) × (seen limit (all ++ more) ≡ done ++ line ∷ after)
         × IsTrue (is_overlong line.bytes) × (line.number ≡ n) }
 
-    // Where the limit is reached, no ended line is left and the rest isn't too long, all is given.
+    // If the limit is reached, no ended line is left and the rest isn't too long, all is given.
     ensures cut { (limit : ℕ) (all more : List ℕ) (done : List Line) (held : Held)
         → IsLeft all done held → length all ≡ limit → more ≢ []
         → ended_from held ≡ [] → ((n : ℕ) → ¬ NextIsLong held n)

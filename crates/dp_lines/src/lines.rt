@@ -140,8 +140,8 @@ impl Lines {
     ghost use Rattle.dp_lines.specs.Held.{ended_from, lines_from, given, NextIsLong, IsInLimit};
     ghost use Rattle.dp_lines.specs.Taken.{first_line, after_first, Keeps};
 
-    /// Takes the lines off that are passed over, up to the first other one, and answers if that
-    /// one's newline stands; `None` if no further newline is held.
+    /// Takes the lines off that are passed over, up to the first other one. It answers where that
+    /// one's newline stands, and `None` if no further newline is held.
     fn pass_over(&mut self) -> Option<usize>
         ensures end { IfSome result (IsEnd self.new.bytes) }
         ensures first { IfSome result (λ len. is_skipped (take len self.new.bytes) ≡ false) }
@@ -185,8 +185,8 @@ impl Lines {
         self.take_line(len, 1)
     }
 
-    /// Gives no line if only the rest is held, which has no newline. An error where it is too
-    /// long already.
+    /// Gives no line if only the rest is held, which has no newline. An error if it is too long
+    /// already.
     fn refuse_long_rest(&self) -> Result<Option<Line>, LineError>
         requires { Lacks newline self.now.bytes }
         ensures none { IfOk result (λ next. next ≡ None) }
@@ -247,7 +247,7 @@ impl Lines {
         Ok(Some(Line { number, bytes }))
     }
 
-    /// Takes so many bytes off, and counts them as a line.
+    /// Takes `taken` bytes off, and counts them as a line.
     fn drop_line(&mut self, taken: usize)
         requires taken { taken ≤ length self.old.bytes }
         requires some { 0 < taken }

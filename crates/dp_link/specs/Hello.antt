@@ -75,9 +75,9 @@ pub record Answers (v w : SeatView) (held taken : Option (List ℕ)) (name : Lis
 abbrev pub DoesNothing : List LogEntry → Option (List ℕ) → Option (List ℕ) → Type 0
 DoesNothing acts held taken = (acts ≡ []) × Keeps held taken
 
--- By how greeting ended: the bytes that were read hold no whole frame; their first frame carries no
--- Hello; or it carries one, whose answer ended so. After a Welcome the bytes behind the Hello are
--- held.
+-- By how greeting ended. The bytes that were read hold no whole frame. Or their first frame carries
+-- no Hello, or it carries one, whose answer led to this end. After a Welcome the bytes behind the
+-- Hello are held.
 abbrev pub GreetsBy : Result Greeting GreetEnd → List ℕ → Stream → List LogEntry → Option (List ℕ)
     → Option (List ℕ) → Type 0
 GreetsBy (Ok greeting) read stream acts held taken =

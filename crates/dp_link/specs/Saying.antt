@@ -107,8 +107,9 @@ counted stream read = take (stream_limit - stream.at) (link_bytes stream read)
 abbrev pub given_count : Stream → List ℕ → ℕ
 given_count stream read = stream.at + length (link_bytes stream read)
 
--- What is after the messages that were said, by the end: no whole frame, if all bytes count or
--- if others were read; or a frame that spells no message and begins at that byte of the link.
+-- What is after the messages that were said, by the end. It is no whole frame, if all bytes count
+-- or if others were read. Or it is a frame that spells no message and begins at that byte of the
+-- link.
 abbrev pub RestBy : UpEnd → Stream → List ℕ → List ℕ → Type 0
 RestBy up.End stream read rest = HoldsNoFrame rest × (given_count stream read ≤ stream_limit)
 RestBy up.ReadFault stream read rest = HoldsNoFrame rest × (given_count stream read ≤ stream_limit)
@@ -122,8 +123,8 @@ RestBy (up.NotGreeted end) stream read rest = ⊥
 
 -- ---- the whole
 
--- What saying the messages of a link did: it read these bytes if the link's are known, and these
--- acts are Says of the first messages, and then a Close, of which that came.
+-- What saying the messages of a link did. It read these bytes if the link's are known. These acts
+-- are Says of the first messages, and then a Close, of which that came.
 pub record AreSays (left unread : Option (List ℕ)) (stream : Stream) (conn : ℕ) (end : UpEnd)
     (outcome : ReplyOrMemory) (acts : List LogEntry) : Type 0 where
   pub read : List ℕ
@@ -187,7 +188,7 @@ pub record SaidToEnd (v w : SeatView) (left unread : Option (List ℕ)) (stream 
   pub said : SaidBy end conn messages says
   pub rests : RestBy end stream read rest
 
--- by what came of the next messages: they were said, and all went on; or the link ended so
+-- by what came of the next messages: they were said, and all went on; or the link ended with this
 abbrev pub SaysNext : Result Unit UpEnd → SeatView → SeatView → Option (List ℕ) → Option (List ℕ)
     → Stream → Reader → ℕ → Type 0
 SaysNext (Ok done) v w left unread start link conn = SaidSoFar v w left unread start link conn

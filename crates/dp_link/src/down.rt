@@ -32,9 +32,9 @@ use std::time::Duration;
 /// milliseconds, and the first entry after a pause goes out at once.
 const PAUSE_MILLIS: u64 = 2;
 
-/// Writes the entries that are to come for a connection, each as one frame, from the first one of
-/// the epoch in which it joined on. It waits for more if there are none, and goes on until
-/// nothing more is to come.
+/// Writes the entries that are to come for a connection, each as one frame. They begin with the
+/// first one of the epoch in which it joined. It waits for more if there are none, and goes on
+/// until nothing more is to come.
 pub fn pump_down<W: Wait, K: Keeper, S: Sink>(
     rt: &W,
     alloc: Global,
@@ -74,9 +74,9 @@ pub fn pump_down<W: Wait, K: Keeper, S: Sink>(
     unreachable!()
 }
 
-/// Writes the next page, and lets more come before the next one. Where it has no entry, it waits
-/// for an act on the session. What is acted after the count, before the session is asked or after
-/// that, is not waited for.
+/// Writes the next page, and lets more come before the next one. If it has no entry, it waits for
+/// an act on the session. What is acted after the count, before the session is asked or after that,
+/// is not waited for.
 fn send_more<W: Wait, K: Keeper, S: Sink>(
     rt: &W,
     hall: &Hall<Session<K>>,
@@ -197,7 +197,7 @@ fn write_page<S: Sink>(
     }
 }
 
-/// The place after so many entries more. None is after the last one that a number may have, to
+/// The place after `count` entries more. None is after the last one that a number may have, to
 /// which no session comes.
 fn next_place(at: u32, count: usize) -> Option<u32>
     ensures { IfSome result (λ next. next ≡ at + count) }

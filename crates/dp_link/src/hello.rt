@@ -65,7 +65,7 @@ pub struct GreetRun {
     pub last: Option<Result<Reply, AllocError>>,
 }
 
-/// The same, with what came of the last act.
+/// Greets as `greet` does, and also gives what came of the last act.
 pub fn run_greet<W: Wait, K: Keeper, R: Source, S: Sink, G: Gate>(
     worker: &Worker<'_, W, K, G>,
     seat: &mut Seat<Session<K>>,
@@ -122,7 +122,7 @@ fn name_in(alloc: Global, entry: Entry) -> Result<Octets, GreetEnd>
     name_of(alloc, &entry.msg)
 }
 
-/// The same of its message.
+/// The name in a message, if it is a Hello.
 fn name_of(alloc: Global, msg: &Msg) -> Result<Octets, GreetEnd>
     ensures { NameOf result msg.now }
 {
@@ -225,8 +225,8 @@ fn open<W: Wait, K: Keeper, G: Gate>(
     act_once(worker, seat, &event, 1)
 }
 
-/// Writes the Welcome. Where that fails the connection is closed, and the error is what came of
-/// the Close.
+/// Writes the Welcome. If that fails the connection is closed, and the error is what came of the
+/// Close.
 fn welcome<W: Wait, K: Keeper, S: Sink, G: Gate>(
     worker: &Worker<'_, W, K, G>,
     seat: &mut Seat<Session<K>>,

@@ -30,7 +30,7 @@ pub(crate) fn reader_of(alloc: Global, split: &mut Splitter) -> EntryReader<Anyw
     EntryReader::resume(replace(split, Splitter::new(alloc)), LINK_LIMIT)
 }
 
-/// How the messages of a link end if reading it ended so.
+/// How the messages of a link end if reading it ended with this.
 pub(crate) fn up_end_of(end: &ReadEnd<DecodeError>) -> UpEnd
     ensures { result ≡ up_end_of end.now }
 {
@@ -43,8 +43,8 @@ pub(crate) fn up_end_of(end: &ReadEnd<DecodeError>) -> UpEnd
     }
 }
 
-/// Why nobody is greeted if reading the first message ended so. Its frame is whole before more
-/// bytes are read than count.
+/// Why nobody is greeted if reading the first message ended with this. Its frame is whole before
+/// more bytes are read than count.
 pub(crate) fn greet_end_of(end: &ReadEnd<DecodeError>) -> GreetEnd
     requires { end.now ≢ ReadEnd.Long }
     ensures { EndsGreeting end.now result }

@@ -64,7 +64,7 @@ pub fn pump_up<W: Wait, K: Keeper, R: Source, G: Gate>(
     run_up(worker, seat, rx, split, conn).end
 }
 
-/// The same, with what the Close was answered.
+/// Pumps as `pump_up` does, and also gives what the Close was answered.
 pub fn run_up<W: Wait, K: Keeper, R: Source, G: Gate>(
     worker: &Worker<'_, W, K, G>,
     seat: &mut Seat<Session<K>>,
@@ -107,7 +107,7 @@ fn next_act(acts: &mut u64) -> u64 {
     *acts
 }
 
-/// The numbers of so many acts of a link, after each of which the worker passes the gate.
+/// Counts `count` acts of a link. After each of them the worker passes the gate.
 fn pass_acts<G: Gate>(gate: &G, who: u32, acts: &mut u64, count: usize) {
     for _act in 0..count {
         let n = next_act(acts);

@@ -9,8 +9,8 @@ use std::alloc::Global;
 use std::process::Abort;
 use std::sync::Wait;
 
-/// What the peer sends, the length of the pieces in which it comes and in which it is taken, and
-/// the numbers of the read and of the write that fail, or 0. Then how the link ends, how many
+/// What the peer sends, and the length of the pieces in which it comes and in which it is taken.
+/// Then the numbers of the read and of the write that fail, or 0. Then how the link ends, how many
 /// events were kept, how many closings were refused, and what the peer is sent.
 #[derive(Drop)]
 struct Row {
@@ -37,7 +37,7 @@ const FEED: &[u8] = &[
     0x21, 0x01,
 ];
 
-/// The same without the Chat.
+/// What a peer is sent without the Chat.
 const SILENT_FEED: &[u8] = &[
     0x00, 0x0b, 0x04, 0x00, 0x00, 0x01, 0x01, 0x00, 0x00, 0x00, 0x00, 0x00, 0x00, 0x00, 0x01, 0x00,
     0x08, 0x25, 0x00, 0x00, 0x00, 0x00, 0x00, 0x00, 0x00, 0x00, 0x00, 0x00, 0x04, 0x20, 0x01, 0x00,
@@ -95,7 +95,7 @@ fn check_over<R: Wait + Abort, K: Keeper + Drop>(rt: &R, alloc: Global, keeper: 
     assert_eq!(rt; tx.as_slice(), row.feed);
 }
 
-/// The same over a store that never fails.
+/// Looks at the link of a row over a store that never fails.
 fn check<R: Wait + Abort>(rt: &R, alloc: Global, row: &Row) {
     check_over(rt, alloc, SureKeeper::new(Rows::new(alloc)), row);
 }

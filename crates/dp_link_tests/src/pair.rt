@@ -11,7 +11,7 @@ use std::alloc::{AllocError, Global};
 use std::sync::Wait;
 use std::thread::{Threads, join_mut};
 
-/// A hall's whole life, in which threads 0 to 3 act so many times each.
+/// A hall's whole life, in which threads 0 to 3 act `times` times each.
 pub fn live_four<R: Threads + Wait + Sync>(
     rt: &R,
     alloc: Global,
@@ -70,7 +70,7 @@ fn run_pairs<R: Threads + Wait + Sync>(
     );
 }
 
-/// So many acts of this thread and of the next one.
+/// `times` acts of this thread and of the next one.
 fn act_two<R: Threads + Wait + Sync>(
     rt: &R,
     hall: &Hall<Tally>,

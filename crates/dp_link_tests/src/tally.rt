@@ -22,7 +22,7 @@ pub struct Gate {
     pub open: AtomicU64,
 }
 
-/// Lets others run until a flag is up, or for so many turns, and says whether it is.
+/// Lets others run until a flag is up, or for `TURNS` turns, and says whether it is.
 pub fn is_raised(flag: &AtomicU64) -> bool {
     for _ in 0..TURNS {
         if flag.load(Ordering::SeqCst) == 1 {

@@ -101,7 +101,7 @@ pub fn live<W: Work>(
     Ok((hall.close(seat), output))
 }
 
-/// The same with two kinds of work at once.
+/// A hall's life with two kinds of work at once.
 pub fn live_both<R: Threads, V: Work + Send, W: Work>(
     rt: &R,
     alloc: Global,

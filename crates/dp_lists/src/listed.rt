@@ -106,7 +106,7 @@ impl Listed<u8> {
         self.entries.extend_from_slice(second)
     }
 
-    /// The same bytes once more.
+    /// A copy of the bytes.
     pub fn copy(&self) -> Result<Listed<u8>, AllocError>
         ensures { IfOk result (λ copy. copy ≡ self.now) }
     {

@@ -6,8 +6,8 @@ use Rattle.dp_messages.specs.Messages.{Spells}
 use Rattle.dp_messages.specs.Properties.{is_disconnect}
 use Rattle.dp_messages.specs.Decoded.{SpellsNothing}
 
--- The messages are those of the frames in order, to the first Disconnect with it, or to the frame
--- before the first that spells no message, or to the end.
+-- The messages are those of the frames in order, to whichever comes first: the first Disconnect
+-- with it, the frame before one that spells no message, or the end.
 abbrev pub AreHeard : List FrameParts → List Msg → Type 0
 AreHeard [] [] = ⊤
 AreHeard [] (m ∷ messages) = ⊥

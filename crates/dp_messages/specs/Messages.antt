@@ -46,8 +46,8 @@ IsOpaqueKind kind = (64 ≤ kind) × ¬ IsListedKind kind
 abbrev pub IsUnknownKind : ℕ → Type 0
 IsUnknownKind kind = (kind < 64) × ¬ IsListedKind kind
 
--- Which messages have a spelling: their parts have one, numbers lie within their widths, the
--- payload has at most 65,535 bytes, and a message of any payload is of a kind that isn't listed.
+-- Which messages have a spelling. Their parts have one, numbers lie within their widths, and the
+-- payload has at most 65,535 bytes. A message of any payload is of a kind that isn't listed.
 abbrev pub HasSpelling : Msg → Type 0
 HasSpelling (msg.Control m) = ControlHasSpelling m
 HasSpelling (msg.Meta m) = MetaHasSpelling m

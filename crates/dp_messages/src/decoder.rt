@@ -52,8 +52,8 @@ pub(crate) const PAYLOAD_LIMIT: usize = 65_535;
 ///
 /// # Errors
 ///
-/// `Unknown` exactly if no message is of the frame's kind, `Malformed` exactly if none of the
-/// kind has its payload, each with the kind; `Memory` if memory runs out.
+/// `Unknown` exactly if no message is of the frame's kind, and `Malformed` exactly if none of the
+/// kind has its payload, each with the kind. `Memory` if memory runs out.
 pub fn decode(alloc: Global, frame: &FrameView<'_>) -> Result<Entry, DecodeError>
     ensures found { IfOk result (Carries frame.now) }
     ensures refused { IfErr result (λ why.

@@ -8,7 +8,7 @@ ghost use Rattle.dp_msg_meta.specs.declared.message.Meta.{Meta};
 ghost use Rattle.dp_msg_meta.specs.Payloads.{IsControlKind, IsMetaKind, SpellsControl, SpellsMeta};
 ghost use Rattle.dp_msg_meta.specs.Equality.{same_control, same_meta};
 
-/// A payload of a kind spells at most one control message, and such a message has one kind and one
+/// A payload of a kind spells at most one control message. Such a message has one kind and one
 /// payload, of at most 65,535 bytes.
 pub fn one_control()
     ensures message { (kind : ℕ) (payload : List ℕ) (m n : Control)
@@ -21,7 +21,7 @@ pub fn one_control()
         → SpellsControl kind payload m → length payload ≤ 65535 }
 {}
 
-/// A payload of a kind spells at most one meta message, and such a message has one kind and one
+/// A payload of a kind spells at most one meta message. Such a message has one kind and one
 /// payload, of at most 65,535 bytes.
 #[tactic(auto, using(crate::proofs::FieldLaws::rise_short))]
 pub fn one_meta()

@@ -51,7 +51,7 @@ impl Ids {
         self.ids.as_slice()
     }
 
-    /// The same ids again.
+    /// A copy of the ids.
     pub fn copy(&self) -> Result<Ids, AllocError>
         ensures { IfOk result (λ ids. ids ≡ self.now) }
     {
@@ -111,7 +111,7 @@ impl NameBytes {
         self.bytes.as_slice()
     }
 
-    /// The same name again.
+    /// A copy of the name.
     pub fn copy(&self) -> Result<NameBytes, AllocError>
         ensures { IfOk result (λ name. name ≡ self.now) }
     {
@@ -194,7 +194,7 @@ impl Text {
         self.text.as_str()
     }
 
-    /// The same text again.
+    /// A copy of the text.
     pub fn copy(&self) -> Result<Text, AllocError>
         ensures { IfOk result (λ text. text ≡ self.now) }
     {

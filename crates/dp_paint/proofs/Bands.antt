@@ -90,7 +90,7 @@ module _ (band : ℕ) (before after : Lists)
       (λ i. let bottom = i.bottom in absurd (omega (arith, bottom, below))))
       ∙ rest col row few (omega (arith, below))
 
--- so many tiles were made for the bands so far, and for one more
+-- a bound on the tiles that were made for the bands so far, and for one more
 pub band_count : (band : ℕ) (initial now : Lists) (start tiles new : ℕ)
     → ((col row : ℕ) → col < 64 → band * 8 ≤ row
     → listed_at now col row ≡ listed_at initial col row)

@@ -82,7 +82,7 @@ waiting_same l m a (suc n) same =
 abbrev inside : CellArea → ℕ → ℕ
 inside area n = cond (is_in_cells area (n % 64) (n / 64)) 1 0
 
--- so many of the cells before the one of a number
+-- how many of the cells before the one of a number are in the area
 inside_before : CellArea → ℕ → ℕ
 inside_before area zero = 0
 inside_before area (suc n) = inside_before area n + inside area n

@@ -252,7 +252,7 @@ layer_after layer width height commands op old new g h view is =
     }) view
     (ap (λ (ps : List Channels). record { width = width; height = height; pixels = ps }) is)
 
--- the cell at a column and a row is one of so many
+-- the cell at a column and a row is one of cols * rows
 place_below : (cols rows col row : ℕ) → col < cols → row < rows → row * cols + col < cols * rows
 place_below cols rows col row in_cols in_rows =
     let next : row + 1 ≤ rows = omega (arith, in_rows) in

@@ -204,7 +204,7 @@ pushed_same l new is col row few =
 abbrev pub counted : Waiting → Waiting
 counted w = record { ops = w.ops; more = [] }
 
--- so many lists and one more
+-- n lists and one more
 pub grown : (xs : List Waiting) (w : Waiting) (n : ℕ) → length xs ≡ n
     → length (xs ++ w ∷ []) ≡ n + 1
 grown xs w n is = length-append xs (w ∷ []) ∙ ap (λ (k : ℕ). k + 1) is

@@ -43,14 +43,14 @@ pub record LayerOf : Type 0 where
   pub height : ℕ
   pub pixels : List Channels
 
--- the pixels of the tile at a column and a row of a canvas of these sides, after all that waits on
--- it, if these commands are numbered
+-- The pixels of the tile at a column and a row of a canvas of these sides, after all that waits on
+-- it. These commands are the numbered ones.
 abbrev pub waiting_tile : ℕ → ℕ → List Draw → Lists → ℕ → ℕ → List Channels → List Channels
 waiting_tile width height commands lists col row =
     tile_after (on_tile width height commands col row) (listed_at lists col row)
 
--- the pixel at a place of a grid on a canvas of these sides, after all that waits on its tile, if
--- these commands are numbered
+-- The pixel at a place of a grid on a canvas of these sides, after all that waits on its tile.
+-- These commands are the numbered ones.
 abbrev pub waiting_pixel : ℕ → ℕ → List Draw → Lists → TileGrid → ℕ → ℕ → Channels
 waiting_pixel width height commands lists g x y =
     ops_at (on_tile width height commands (x / 64) (y / 64)) (listed_at lists (x / 64) (y / 64))

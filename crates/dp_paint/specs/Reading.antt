@@ -40,7 +40,7 @@ pub record IsResized (r : Resize) (old new : TileGrid) : Type 0 where
 
 -- ---- in the words of the code
 
--- so many pixels of a row, from a place on, of pixels at all places
+-- `count` pixels of a row, from a place on, of pixels at all places
 abbrev pub row_from : (ℤ → ℤ → Channels) → ℤ → ℤ → ℕ → List Channels
 row_from pixel x y count = map (λ i. pixel (x +ℤ pos i) y) (below count)
 

@@ -20,7 +20,7 @@ pub(crate) fn on_greatest(rect: Rect) -> Rect
     rect.on_greatest()
 }
 
-/// Of so many tiles along a side, those that have one of the places from one on before another: the
+/// Of `count` tiles along a side, those that have one of the places from one on before another: the
 /// first of them, and the first after them.
 #[inline(always)]
 pub(crate) fn tiles_between(from: i64, to: i64, count: u32) -> (u32, u32)
@@ -59,7 +59,7 @@ pub(crate) fn tiles_met(from: i64, to: i64, left: u32, right: u32) -> (u32, u32)
     (first.clamp(left, right), after.clamp(left, right))
 }
 
-/// The cells of a grid of so many columns and rows that have places of a rectangle.
+/// The cells of a grid of `cols` by `rows` tiles that have places of a rectangle.
 #[inline(always)]
 pub(crate) fn cells_in(area: Rect, cols: u32, rows: u32) -> CellArea
     requires { IsOnGreatest area }

@@ -41,7 +41,7 @@ pub(crate) fn move_rects(command: &Draw) -> (Rect, Rect)
     }
 }
 
-/// The cells of a grid of so many columns and rows that a command may change.
+/// The cells of a grid of `cols` by `rows` tiles that a command may change.
 #[inline(always)]
 pub(crate) fn cells_of(command: &Draw, cols: u32, rows: u32) -> CellArea
     requires { IsPainting command.now }
@@ -75,7 +75,7 @@ fn joined(a: CellArea, b: CellArea) -> CellArea
     }
 }
 
-/// An area of a grid of so many columns and rows that has all cells of the foot of a command.
+/// An area of a grid of `cols` by `rows` tiles that has all cells of the foot of a command.
 #[inline(always)]
 pub(crate) fn foot_cells(command: &Draw, cols: u32, rows: u32) -> CellArea
     requires { ChangesPixels command.now }

@@ -349,7 +349,7 @@ impl TileSource for Numbered<'_> {
 ///
 /// # Errors
 ///
-/// The same operations wait on each tile.
+/// Memory ran out: what waits on each tile stays.
 pub(crate) fn file_number(
     lists: &mut TileLists,
     alloc: Global,
@@ -386,7 +386,7 @@ pub(crate) fn file_number(
 ///
 /// # Errors
 ///
-/// The same operations wait on each tile.
+/// Memory ran out: what waits on each tile stays.
 #[inline(always)]
 pub(crate) fn file(
     lists: &mut TileLists,

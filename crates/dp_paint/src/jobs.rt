@@ -196,7 +196,7 @@ fn make_work<'a, T: Ledger>(
     }
 }
 
-/// The same, if operations wait on the tile of a number.
+/// Makes the job of the tile of a number, if operations wait on it.
 ///
 /// # Errors
 ///

@@ -178,7 +178,7 @@ impl DeferredGrid {
         file(&mut self.lists, self.grid.alloc(), command, area)
     }
 
-    /// Whether a part of the operations that may wait were added, one of so many: 1 for all.
+    /// Whether a `part`-th of the operations that may wait were added: all of them for 1.
     fn has_part(&self, part: usize) -> bool
         requires { 0 < part }
     {

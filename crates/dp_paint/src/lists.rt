@@ -83,7 +83,7 @@ impl OpList {
         }
     }
 
-    /// The same operations once more, those that count.
+    /// A copy of the operations that count.
     fn share(&self) -> Result<OpList, AllocError>
         ensures { IfOk result (λ copy. copy ≡ record { ops = self.now.ops; more = [] }) }
     {
@@ -289,7 +289,7 @@ impl TileLists {
         }
     }
 
-    /// The same operations once more, those that count.
+    /// A copy of the lists, with the operations that count.
     pub(crate) fn share(&self) -> Result<TileLists, AllocError>
         ensures same { IfOk result (HaveSame self.now) }
         ensures counts { IfOk result AllCount }

@@ -116,7 +116,7 @@ impl Moved<'_> {
         self.lay_lifted(x, y, &mut lifted[..row.len()], row);
     }
 
-    /// The same by way of a copy of the old pixels.
+    /// Does what `lay_part` does, by way of a copy of the old pixels.
     fn lay_lifted(self, x: i64, y: i64, lifted: &mut [Pixel], row: &mut [Pixel])
         requires x { unsigned_abs x < 2 ^ 40 }
         requires y { unsigned_abs y < 2 ^ 40 }
@@ -278,8 +278,7 @@ fn on_canvas(rect: Rect, width: u32, height: u32) -> Rect
     rect.clipped(Rect::canvas(width, height))
 }
 
-/// Paints what moved on two areas of a grid. Where it is refused, some of their cells may be
-/// painted.
+/// Paints what moved on two areas of a grid. If it is refused, some of their cells may be painted.
 fn paint_areas<T: Ledger>(
     grid: &mut Grid,
     moved: &Moved,
@@ -306,7 +305,7 @@ fn paint_areas<T: Ledger>(
     Ok(())
 }
 
-/// Paints a MoveRect on a grid, as another grid of the same pixels shows it. Where it is refused, a
+/// Paints a MoveRect on a grid, as another grid of the same pixels shows it. If it is refused, a
 /// part may be painted.
 fn paint_move<T: Ledger>(
     grid: &mut Grid,

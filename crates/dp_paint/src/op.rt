@@ -13,8 +13,8 @@ use dp_pixels::{Brush, NearDab, Place, PlacedDab, Region, Shape, draw_dab};
 use dp_tile::SIDE;
 use std::marker::Model;
 
-/// What a fill does on a tile: by a mode, a colour is blended with the pixels in the columns from
-/// `left` on before `right` and in the rows from `top` on before `bottom`.
+/// What a fill does on a tile: by a mode, a colour is blended with the pixels of a rectangle. That
+/// has the columns from `left` on before `right`, and the rows from `top` on before `bottom`.
 #[derive(Clone, Copy)]
 pub(crate) struct TileFill {
     pub color: u32,
@@ -286,8 +286,8 @@ pub(crate) struct PackedOp {
     /// command its number.
     low: u32,
     /// From the lowest bit on: of a fill its four sides, seven bits each, and three of the mode. Of
-    /// a dab `x` and `y`, nine bits each, from -256 on, eight of the size, one of the shape, three
-    /// of the mode, and the highest bit. Of a command the two highest bits.
+    /// a dab `x` and `y`, nine bits each, from -256 on. Then eight of its size, one of its shape,
+    /// three of its mode, and the highest bit. Of a command the two highest bits.
     high: u32,
 }
 
@@ -382,7 +382,7 @@ impl PackedOp {
         }
     }
 
-    /// The same operation once more.
+    /// A copy of the operation.
     pub(crate) fn copy(&self) -> PackedOp
         ensures { result ≡ self.now }
     {

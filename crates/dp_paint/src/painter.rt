@@ -231,8 +231,9 @@ pub(crate) fn draw_ops(on: &Sheet<'_>, col: u32, row: u32, ops: &[PackedOp], pix
     }
 }
 
-/// Draws operations one after the other on the tile at a column and a row, which is of one colour,
-/// if one is given, and else has these pixels. Gives its colour then, if it is known to be of one.
+/// Draws operations one after the other on the tile at a column and a row. The tile is of one
+/// colour, if one is given, and else has these pixels. Gives its colour then, if it is known to be
+/// of one.
 pub(crate) fn show_ops(
     on: &Sheet<'_>,
     col: u32,

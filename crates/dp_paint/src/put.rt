@@ -13,7 +13,7 @@ use dp_blend::Pixel;
 use dp_msg_draw::TileContent;
 use dp_tile::TileChange;
 
-/// The tiles of a PutTile: the one at a column and a row of a canvas of these sides, and so many
+/// The tiles of a PutTile: the one at a column and a row of a canvas of these sides, and `repeat`
 /// further ones.
 #[derive(Clone, Copy)]
 pub(crate) struct TileRun {

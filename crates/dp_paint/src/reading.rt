@@ -22,7 +22,7 @@ pub(crate) struct Shown<'a> {
     ghost of: { IsGridOf width height grid.now },
 }
 
-/// How many of so many numbers, from x on, are below a limit.
+/// How many of `len` numbers, from x on, are below a limit.
 pub(crate) fn count_below(limit: i64, x: i64, len: usize) -> usize
     requires limit { unsigned_abs limit < 2 ^ 40 }
     requires x { unsigned_abs x < 2 ^ 41 }
@@ -37,7 +37,7 @@ pub(crate) fn count_below(limit: i64, x: i64, len: usize) -> usize
     }
 }
 
-/// The number that is so many after x.
+/// The number that is `count` after x.
 fn number_after(x: i64, count: usize) -> u32
     requires x { unsigned_abs x < 2 ^ 40 }
     requires count { count ≤ 4096 }
@@ -48,7 +48,7 @@ fn number_after(x: i64, count: usize) -> u32
     (x + count as i64) as u32
 }
 
-/// The place that is so many after x.
+/// The place that is `count` after x.
 pub(crate) fn place_after(x: i64, count: usize) -> i64
     requires x { unsigned_abs x < 2 ^ 40 }
     requires count { count ≤ 4096 }

@@ -29,8 +29,8 @@ use std::alloc::AllocError;
 use std::sync::ledger::Ledger;
 use std::thread::Threads;
 
-/// How many threads may work at the same time, if 0 is 1, and the gate that their jobs pass,
-/// each by its place and 0.
+/// How many threads may work at the same time, if 0 is 1. Then the gate that their jobs pass, each
+/// by its place and 0.
 #[derive(Drop)]
 pub struct Workers<'a, G> {
     pub count: u32,
@@ -110,7 +110,7 @@ pub(crate) fn settle_all<R: Threads + Sync, G: Gate, T: Ledger>(
 ///
 /// # Errors
 ///
-/// The same operations wait on each tile.
+/// Memory ran out: what waits on each tile stays.
 fn file_command(
     lists: &mut TileLists,
     grid: &Grid,

@@ -154,7 +154,7 @@ fn draws<B: Board<Op = Draw> + BoardView, D: Ledger, T: Ledger>(
     looks_so(rt, &shared, case);
 }
 
-/// Draws the commands of a case on a canvas as one batch, by so many workers, and looks at it.
+/// Draws the commands of a case on a canvas as one batch, by `count` workers, and looks at it.
 fn draws_batch<R: Threads + Sync + Abort, D: Ledger, T: Ledger>(
     rt: &R,
     alloc: Global,
@@ -188,8 +188,8 @@ fn looks_so<B: BoardView>(rt: &impl Abort, board: &B, case: &Case) {
     }
 }
 
-/// Rows of layers and groups, with commands on layers that have effect and that don't; commands on
-/// pixels, one of each kind; and several on tiles.
+/// Rows of layers and groups, with commands on layers that have effect and that don't. Commands on
+/// pixels, one of each kind, and several on tiles.
 static CASES: [Case; 13] = [
     Case {
         commands: &[],
@@ -457,7 +457,7 @@ static PAIRS: [(&[u8], &[u8], bool); 10] = [
         b"\x89\x01\x01\x01\0\0\0\x01\0\0\0\0\0\0\0\x01\0\0\0\x01\xff\0\0\xff",
         true,
     ),
-    // The same places of another layer.
+    // Fills at the same places of two layers.
     (
         b"\x89\x01\x01\x01\0\0\0\0\0\0\0\0\0\0\0\x03\0\0\0\x01\xff\xff\0\0",
         b"\x89\x01\x02\x01\0\0\0\0\0\0\0\0\0\0\0\x03\0\0\0\x01\xff\0\0\xff",

@@ -92,7 +92,7 @@ fn read_right(layer: &DeferredGrid, pixels: &mut [Pixel]) -> [Pixel; 4]
 
 /// A layer of 70 by 2 on which fills wait: a white one in both tiles, and over its right column a
 /// black one, which goes past the canvas. Its right tile is read at first, after another fill in
-/// white, and after the pixel at (64, 1) moved to (69, 0); before the move its pixels are also read
+/// white, and after the pixel at (64, 1) moved to (69, 0). Before the move its pixels are also read
 /// one by one.
 fn check_waiting<T: Ledger>(rt: &impl Abort, alloc: Global, tiles: &mut Steps<T>) {
     let black = of_argb(0xff00_0000);

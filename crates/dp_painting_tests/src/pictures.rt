@@ -72,8 +72,8 @@ pub(crate) fn board_of<D: Ledger, T: Ledger>(
     board
 }
 
-/// Opacities and modes of a group and of a red and a blue layer in it, whether the group is hidden,
-/// and the colour of the picture's one pixel, over green.
+/// Opacities and modes of a group and of a red and a blue layer in it, and whether the group is
+/// hidden. Then the colour of the picture's one pixel, over green.
 static GROUPS: [([u8; 3], [u8; 3], bool, [u8; 3]); 6] = [
     ([255, 255, 255], [1, 1, 1], false, [0, 0, 255]),
     ([255, 255, 255], [1, 1, 1], true, [0, 255, 0]),

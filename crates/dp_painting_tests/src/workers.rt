@@ -60,7 +60,7 @@ fn fill(x: u32, y: u32, w: u32, h: u32, color: u32) -> Draw {
     }
 }
 
-/// Has so many workers draw a picture of these bytes. Says whether the gate gave up.
+/// Has this number of workers draw a picture of these bytes. Says whether the gate gave up.
 fn gives_up<R: Threads + Sync + Abort>(
     rt: &R,
     alloc: Global,
@@ -113,7 +113,7 @@ fn check_workers<R: Threads + Sync + Abort, D: Ledger, T: Ledger>(
     assert!(rt; !gives_up(rt, alloc, &board, 7, want));
 }
 
-/// Has so many workers paint two fills in a batch, each on a tile of its own. Says whether the gate
+/// Has `count` workers paint two fills in a batch, each on a tile of its own. Says whether the gate
 /// gave up.
 fn paints_in_turn<R: Threads + Sync + Abort, D: Ledger, T: Ledger>(
     rt: &R,

@@ -21,9 +21,9 @@ pub trait Job: Send {
         ensures { leaves self.old self.new };
 }
 
-/// Runs each job once, on at most so many threads, if 0 is 1. It returns once all have ended.
-/// Each job passes the gate first, by its place and 0. It takes no memory, and if a thread can't
-/// be had, the jobs that it would run are run by another.
+/// Runs each job once, on at most `workers` threads, if 0 is 1. It returns once all have ended.
+/// Each job passes the gate first, by its place and 0. It takes no memory, and if a thread can't be
+/// had, the jobs that it would run are run by another.
 pub fn par_each<R: Threads + Sync, J: Job, G: Gate>(rt: &R, workers: u32, gate: &G, jobs: &mut [J])
     requires few { length jobs.old < 2 ^ 32 }
     requires ready { All J.ready jobs.old }

@@ -32,7 +32,7 @@ out_of_first a b x y layer far inside =
     false_from_ne_true (is_in_foot (foot a) x y) (λ both.
     false≢true (sym (apart_feet (foot a) (foot b) x y layer far both) ∙ inside))
 
--- at one place: where it is in the foot of one, the other changes nothing that matters there
+-- at one place: if it is in the foot of one, the other changes nothing that matters there
 at_place : (w h : ℕ) (a b : Draw) (old : ℤ → ℤ → Channels) (x y : ℤ)
     → w ≤ 4096 → h ≤ 4096 → foot_layer (foot a) ≡ foot_layer (foot b)
     → feet_meet (foot a) (foot b) ≡ false

@@ -112,8 +112,8 @@ pixel_drawn width height op x y old =
 
 -- ---- from the old pixels at all places
 
--- the pixel at a place of the canvas after MoveRect: the source, as far as it is on the canvas, is
--- clear, and if the place moved back is in it, the old pixel there is blended on that
+-- The pixel at a place of the canvas after MoveRect. The source, as far as it is on the canvas, is
+-- clear. If the place moved back is in it, the old pixel there is blended on that.
 abbrev pub moved : ℕ → ℕ → ℕ → ℕ → ℕ → ℕ → ℤ → ℤ → (ℤ → ℤ → Channels) → ℤ → ℤ → Channels
 moved width height sx sy w h tx ty old x y =
     let source = clipped (rect_at (pos sx) (pos sy) w h) (canvas_rect width height) in

@@ -67,8 +67,8 @@ meets_area (Two layer from to) other area = layer == other
     && (share_place from area || share_place to area)
 meets_area All other area = true
 
--- two feet meet if one is everything, or if they are of one layer and a rectangle of the one
--- shares a place with a rectangle of the other
+-- Two feet meet if one is everything, or if they are of one layer and share a place. That is: a
+-- rectangle of the one shares it with a rectangle of the other.
 abbrev pub feet_meet : Footprint → Footprint → Bool
 feet_meet a (Area layer rect) = meets_area a layer rect
 feet_meet a (Two layer from to) = meets_area a layer from || meets_area a layer to

@@ -24,7 +24,7 @@ pub record IsPainted (region : Region) (stride : ℕ) (change : ℤ → ℤ → 
       → ((i j : ℕ) → i < region.width → j < region.height → k ≢ j * stride + i)
       → slice_index_or new k d ≡ slice_index_or old k d
 
--- a row of so many places, at least one, which begins at a place, is in the rectangle
+-- a row of `len` places, at least one, which begins at a place, is in the rectangle
 pub record IsRowIn (bounds : Rect) (place : Place) (len : ℕ) : Type 0 where
   pub some : 0 < len
   pub left : bounds.x0 ≤ℤ place.x

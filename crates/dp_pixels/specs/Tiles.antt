@@ -19,8 +19,8 @@ tiles_along side = (side + 63) / 64
 abbrev pub tile_number : ℕ → ℕ → ℕ → ℕ
 tile_number width col row = row * tiles_along width + col
 
--- the tile of a place is among those with the numbers from that of the tile (col, row) on, the tile
--- itself and `repeat` further ones; none is where the tile isn't on the canvas
+-- The tile of a place is the tile (col, row), or one of the `repeat` tiles with the numbers after
+-- that. If the tile (col, row) isn't on the canvas, none is.
 abbrev pub is_in_tiles : ℕ → ℕ → ℕ → ℕ → ℕ → ℕ → ℕ → Bool
 is_in_tiles width height col row repeat x y =
     let first = tile_number width col row in

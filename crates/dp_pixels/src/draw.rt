@@ -119,7 +119,7 @@ fn tile_region(
 }
 
 /// Draws a command other than MoveRect on a region, in a list of pixels whose rows are `stride`
-/// long. The pixels of the region that are on the canvas change, and all others stay; a command
+/// long. The pixels of the region that are on the canvas change, and all others stay. A command
 /// that is no pixel command, and MoveRect, changes none. It takes no memory.
 pub fn draw_region(command: &Draw, region: &Region, stride: usize, pixels: &mut [Pixel])
     requires wide { region.now.width ≤ stride }

@@ -22,7 +22,7 @@ empty_board = record { width = 0; height = 0; background = 0; rows = [] }
 abbrev pub Covers : ℕ → ℕ → Row (List Channels) → Type 0
 Covers width height row = ForSome row.content (λ pixels. length pixels ≡ width * height)
 
--- Both sides are 0, or both are from 1 to 4096 pixels; the rows are a tree of layers, and each
+-- Both sides are 0, or both are from 1 to 4096 pixels. The rows are a tree of layers, and each
 -- paint row covers the canvas.
 pub record IsBoard (board : Board) : Type 0 where
   pub width : board.width ≤ 4096

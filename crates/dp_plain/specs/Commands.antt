@@ -80,8 +80,8 @@ draw board op = option_map_or (painted board op) (painted_layer op) (arranged bo
 abbrev pub draw_all : Board → List Draw → Board
 draw_all board commands = fold draw board commands
 
--- The board takes the command up: a resize to sides, a background, a command on layers that has an
--- effect on the rows, or one on the pixels of a paint layer that is present.
+-- The board takes the command up. It is a resize to sides, a background, or a command on layers
+-- that has an effect on the rows. Or it is one on the pixels of a paint layer that is present.
 abbrev pub is_accepted : Board → Draw → Bool
 is_accepted board (draws.CanvasResize top right bottom left) =
     is_side (pos board.width +ℤ left +ℤ right) && is_side (pos board.height +ℤ top +ℤ bottom)

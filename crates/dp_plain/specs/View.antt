@@ -6,8 +6,8 @@ use Rattle.dp_blend.specs.Canvas.{pixel_at}
 use Rattle.dp_layers.specs.Rows.{content_of}
 use Rattle.dp_plain.specs.Board.{Board}
 
--- the pixel of the paint layer of the id at a place of the canvas; None if no paint layer has
--- the id or the place is outside
+-- The pixel of the paint layer of the id at a place of the canvas. It is None if no paint layer has
+-- the id or the place is outside.
 abbrev pub pixel_in : Board → ℕ → ℕ → ℕ → Option Channels
 pixel_in board id x y =
     if nat_lt x board.width && nat_lt y board.height

@@ -20,7 +20,7 @@ pub fn known_colors(command: &Draw)
     }
 }
 
-/// The same of several commands.
+/// The colours of several commands fit.
 pub fn known_commands(commands: &[Draw])
     ensures { All FitsColors commands.now }
 {

@@ -20,8 +20,8 @@ pub fn spelled_commands_keep_pixels()
     pixels_stay_pixels();
 }
 
-/// Commands on the pixels of one layer change what that layer holds, and nothing else. Where no
-/// paint layer has the id, they change nothing.
+/// Commands on the pixels of one layer change what that layer holds, and nothing else. If no paint
+/// layer has the id, they change nothing.
 pub fn runs_change_one_layer()
     ensures present { (board : Board) (id : ℕ) (run : List Draw) (pixels : List Channels)
         → IsBoard board → All (λ c. painted_layer c ≡ Some id) run

@@ -48,8 +48,8 @@ pub trait BoardView {
         ensures { part.new ≡ part_of_row (board self.now).width
             (pixels_of (board self.now) id) x y (length part.old) };
 
-    /// The colour of the tile at a column and a row of tiles, of the paint layer of the id, where
-    /// it is of one and that is known without reading it.
+    /// The colour of the tile at a column and a row of tiles, of the paint layer of the id. It is
+    /// `None` if the tile isn't of one, or that isn't known without reading it.
     fn tile_color(&self, id: u16, col: u32, row: u32) -> Option<Pixel>
         requires paint { IsTrue (is_paint_row (layers_of (board self.now).rows) id) }
         requires across { col * 64 < (board self.now).width }
@@ -68,7 +68,7 @@ pub trait BoardView {
         ensures { ShowsTile (board self.now).width (board self.now).height
             (pixels_of (board self.now) id) col row result buffer.new };
 
-    /// The pixel of the paint layer of the id at a place, or `None` if no paint layer has the id
+    /// The pixel of the paint layer of the id at a place. It is `None` if no paint layer has the id
     /// or the place is outside.
     fn pixel(&self, id: u16, x: u32, y: u32) -> Option<Pixel>
         ensures { result ≡ pixel_in (board self.now) id x y };

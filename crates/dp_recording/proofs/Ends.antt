@@ -116,7 +116,7 @@ late-done profile input now entries reader h came end = (
   end,
 )
 
--- it ended so
+-- it ended with this
 pub late-ended : (profile : Profile) (input : List ℕ) (now : Option (List ℕ)) (entries : List Entry)
     (reader : Reader) (end : ReadEnd DecodeError) {left : Option (List ℕ)}
     → HasReadAfter profile (stands_in profile) input left entries reader

@@ -30,7 +30,7 @@ TellsProfile text name =
 abbrev pub announced : List ℕ → ℕ
 announced bytes = 8 + big_number 2 (drop 6 bytes)
 
--- the bytes begin with a header of so many, which tells this profile
+-- the bytes begin with a header of `len` bytes, which tells this profile
 pub record IsHeader (bytes : List ℕ) (profile : Profile) (len : ℕ) : Type 0 where
   pub begins : take 6 bytes ≡ magic
   pub long : len ≡ announced bytes

@@ -30,7 +30,7 @@ pub record BeginsReading (left now : Option (List ℕ)) (before after : ℕ) (ne
     pub goes_on : GoesOn new
     pub kept : after ≡ before
 
--- reading ended so before
+-- reading ended with this before
 pub record StopsEarly (left now : Option (List ℕ)) (before after : ℕ) (error : RecError) : Type 0
   where
     pub ends : (bytes : List ℕ) → left ≡ Some bytes → EndsEarly bytes now error
@@ -59,7 +59,7 @@ pub record FindsNone (left now : Option (List ℕ)) (before after : ℕ) (old ne
     pub finished : new ≡ Finished
     pub kept : after ≡ before
 
--- Reading ended so, and the reader has ended: by an earlier call, or by this one.
+-- Reading ended with this, and the reader has ended: by an earlier call, or by this one.
 pub record StopsReading (left now : Option (List ℕ)) (before after : ℕ) (old new : Phase)
     (error : RecError) : Type 0 where
   pub ends :

@@ -58,7 +58,7 @@ error_of (read.BadMessage why at) = Message at why
 error_of read.Long = Long
 error_of read.Memory = Memory
 
--- the end of a run for which reading its recording ended so
+-- the end of a run for which reading its recording ended with this
 abbrev pub end_of : RecError → RunEnd
 end_of BadHeader = run.BadHeader
 end_of (Truncated at) = run.Truncated at
@@ -67,8 +67,8 @@ end_of ReadFault = run.ReadFault
 end_of Long = run.Long
 end_of Memory = run.Memory
 
--- What was taken of an input of which these bytes are left holds no cause to end, but for the last
--- bytes of it, at most so many: it is too few bytes for a header, or a header, and then bytes that
+-- What was taken of an input of which these bytes are left holds no cause to end. Its last bytes,
+-- at most `most`, may hold one. It is too few bytes for a header, or a header, and then bytes that
 -- hold none.
 abbrev pub RecordingTook : ℕ → List ℕ → Option (List ℕ) → Type 0
 RecordingTook most input left =
@@ -77,7 +77,7 @@ RecordingTook most input left =
     × TookNoCause (stands_in profile) len stream_limit most input left)
 
 -- a frame of the recording may not stand by its profile, for this cause: it begins at byte n, after
--- so many frames
+-- `before` frames
 abbrev pub IsBadFrame : List ℕ → ℕ → ℕ → DecodeError → Type 0
 IsBadFrame input before n cause =
     (profile : Profile) × (len : ℕ) × IsHeader input profile len
@@ -124,7 +124,7 @@ IsReading (Reading reader) = Unit {0}
 IsReading Finished = ⊥
 IsReading (Failed error) = ⊥
 
--- so many bytes count of what a reader reads
+-- how many bytes count of what a reader reads
 abbrev pub limit_of : Phase → ℕ
 limit_of New = stream_limit
 limit_of (Lifting reader) = reader.limit
@@ -158,7 +158,7 @@ HasReadAfter profile MayStand input left entries reader =
     × HasRead MayStand input left entries reader
 
 -- What was read of an input of which these bytes are left, and what entries it gave: nothing was
--- read; a header, and entries after it; all of it; or it ended so.
+-- read; a header, and entries after it; all of it; or reading it ended with an error.
 abbrev pub HasReadOf : List ℕ → Option (List ℕ) → List Entry → Phase → Type 0
 HasReadOf input left entries New = (left ≡ Some input) × (entries ≡ [])
 HasReadOf input left entries (Lifting reader) =
@@ -179,7 +179,7 @@ pub record HoldsHeader (input : List ℕ) (left : Option (List ℕ)) (held : Lis
   pub few : IsShort short
   pub small : length piece ≤ 4096
 
--- the count of the input's faults if reading ended so: a fault raised it, and else it stays
+-- the count of the input's faults if reading ended with this: a fault raised it, and else it stays
 abbrev pub FaultMatchesError : ℕ → ℕ → RecError → Type 0
 FaultMatchesError before now ReadFault = Rose before now
 FaultMatchesError before now BadHeader = now ≡ before

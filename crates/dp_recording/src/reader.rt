@@ -22,7 +22,7 @@ use std::alloc::{AllocError, Global};
 use std::marker::Model;
 use thiserror::Error;
 
-/// So many bytes of a recording count.
+/// How many bytes of a recording count.
 const LIMIT: u64 = 1 << 30;
 
 /// Why a recording gives no further entry. Places are counted from the input's start.
@@ -47,7 +47,7 @@ pub enum RecError {
 }
 
 impl RecError {
-    /// How a run ends for which reading its recording ended so.
+    /// How a run ends for which reading its recording ended with this.
     pub fn run_end(&self) -> RunEnd
         ensures { result ≡ end_of self.now }
     {
@@ -73,7 +73,7 @@ pub enum Phase {
     Reading(EntryReader<Anywhere>),
     /// It came to the end, after a whole frame.
     Finished,
-    /// It ended so.
+    /// It ended with this error.
     Failed(RecError),
 }
 
@@ -208,7 +208,7 @@ fn finish(phase: &mut Phase)
     *phase = Phase::Finished;
 }
 
-/// Reading its entries ended so.
+/// Notes that reading its entries ended with this.
 #[inline(never)]
 fn fail(phase: &mut Phase, end: ReadEnd<DecodeError>) -> RecError
     ensures value { result ≡ error_of end }
@@ -219,7 +219,7 @@ fn fail(phase: &mut Phase, end: ReadEnd<DecodeError>) -> RecError
     error
 }
 
-/// Why a recording gives no entry whose entries ended so.
+/// Why a recording gives no entry if reading its entries ended with this.
 fn error_of(end: ReadEnd<DecodeError>) -> RecError
     ensures { result ≡ error_of end }
 {

@@ -117,7 +117,8 @@ pub fn plain_replay<D: Ledger, T: Ledger>(
     show_on(alloc, PlainBoard::new(alloc), entries, draws, tiles)
 }
 
-/// The same on any board, from the board `blank`. Each of these commands is drawn once.
+/// Shows entries as `plain_replay` does on any board, from the board `blank`. Each of these
+/// commands is drawn once.
 ///
 /// # Errors
 ///

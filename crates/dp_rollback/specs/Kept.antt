@@ -23,7 +23,7 @@ kept_acts (a ∷ acts) (join ∷ joins) (flag ∷ flags) =
 abbrev pub kept_of : {Op : Type 0} → ℕ → List (UserAct Op) → List (KeptAct Op)
 kept_of depth acts = kept_acts acts (joins depth acts) (drawn_flags depth acts)
 
--- the command of an act, where it is drawn
+-- the command of an act, if it is drawn
 abbrev pub drawn_command : {Op : Type 0} → KeptAct Op → List Op
 drawn_command k = command_of k.act.act k.drawn
 

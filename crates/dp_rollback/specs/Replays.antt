@@ -6,7 +6,7 @@ use Rattle.dp_board.specs.Strokes.{moved_by}
 use Rattle.dp_board.specs.Commands.{command_of}
 use Rattle.dp_board.specs.Replay.{replay}
 
--- with one more act, which moves no group, the replay has the command of the act drawn, where it is
+-- with one more act, which moves no group, the replay has the command of the act drawn, if it is
 -- one
 abbrev pub ReplayGoesOn : Type 0 → Type 0 → Type 0
 ReplayGoesOn B Op =

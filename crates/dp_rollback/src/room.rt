@@ -15,7 +15,7 @@ pub(crate) fn drop_first<T: Drop>(items: &mut Vec<T>, count: usize)
     items.drain(..count);
 }
 
-/// Lets go of the acts before the position `first`, where they are held from `base` on.
+/// Of the acts that are held from `base` on, lets go of those before the position `first`.
 pub(crate) fn let_go<Op: Drop>(base: &mut usize, kept: &mut Vec<KeptAct<Op>>, first: usize)
     requires later { base.old ≤ first }
     requires within { first ≤ base.old + vec_len kept.old }

@@ -33,7 +33,7 @@ impl<B> Model for Save<B> {
     ghost view = { λ save. record { point = save.point; board = save.board.value } };
 }
 
-/// The same savepoints once more.
+/// A copy of the savepoints.
 pub(crate) fn copy_saves<B: Drop>(
     alloc: Global,
     saves: &[Save<B>],

@@ -2,8 +2,8 @@
 
 use std::alloc::Global;
 
-/// What a run gives: its status, its output, what it said on diag, the text of what it sent, where
-/// each link has a line, and the text of what a server leaves.
+/// What a run gives: its status, its output, and what it said on diag. Then the text of what it
+/// sent, in which each link has a line, and the text of what a server leaves.
 #[derive(Drop)]
 pub struct Answer {
     pub status: u8,

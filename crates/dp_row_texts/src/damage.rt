@@ -11,7 +11,7 @@ use std::alloc::{AllocError, Global};
 /// What is wrong with a link, and at which of its frames or calls.
 #[derive(Clone, Copy)]
 pub enum Damage<'a> {
-    /// It ends after so many bytes.
+    /// It ends after this many bytes.
     Cut(usize),
     /// A frame that may not stand there is in place of this one.
     Lie(usize, &'a [u8]),
@@ -51,7 +51,7 @@ fn frame_len(bytes: &[u8]) -> usize
     told.saturating_add(4).min(bytes.len())
 }
 
-/// How many frames are whole within so many bytes.
+/// How many frames are whole within `bytes` bytes.
 pub fn whole_within(frames: &[&[u8]], bytes: usize) -> usize {
     let mut left = bytes;
     let mut count = 0usize;
@@ -191,8 +191,8 @@ fn put_instead<'a>(
     Ok(())
 }
 
-/// Adds the reads that fail in turn, as many as a link of this length takes and the one that finds
-/// its end, and the writes.
+/// Adds the reads that fail in turn, and the writes. The reads are as many as a link of this length
+/// takes, and the one that finds its end.
 fn put_call_damages<'a>(
     table: &'a Table,
     len: usize,

@@ -23,7 +23,7 @@ pub struct Sent {
 }
 
 impl Sent {
-    /// Nothing was sent so far on so many links.
+    /// Nothing was sent so far on `links` links.
     pub fn new(alloc: Global, links: usize) -> Result<Arc<Sent>, AllocError> {
         let mut counts = Vec::new(alloc);
         for _ in 0..links {
@@ -38,14 +38,14 @@ impl Sent {
         self.gave_up.load(Ordering::SeqCst)
     }
 
-    /// Notes that a link was sent so many bytes so far.
+    /// Notes that a link was sent `sent` bytes so far.
     fn note(&self, link: usize, sent: usize) {
         if let Some(count) = self.counts.get(link) {
             count.store(sent as u64, Ordering::SeqCst);
         }
     }
 
-    /// Whether the link of a pause was sent so many bytes.
+    /// Whether the link of a pause was sent as many bytes as the pause says.
     fn is_over(&self, pause: Pause) -> bool {
         match self.counts.get(pause.link) {
             Some(count) => count.load(Ordering::SeqCst) >= pause.sent as u64,
@@ -97,7 +97,7 @@ impl RowRx {
         stop
     }
 
-    /// The next bytes, at most so many, up to the next pause.
+    /// The next bytes, at most `most`, up to the next pause.
     fn next_bytes(&self, most: usize) -> &[u8]
         ensures { length result.now ≤ most }
     {

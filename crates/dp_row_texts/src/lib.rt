@@ -1,6 +1,6 @@
-//! Rows of `dp_rows`: what a text of rows has, the wires and the store that they run over, what is
-//! printed of a run, and what links with damages are to give. dp_rows' own page says what the lines
-//! of such a text are.
+//! Rows of `dp_rows`: what a text of rows has, and the wires and the store that they run over. What
+//! is printed of a run, and what links with damages are to give. dp_rows' own page says what the
+//! lines of such a text are.
 #![tactic(auto)]
 
 mod answer;

@@ -4,8 +4,8 @@ use crate::names::{Names, read_word};
 use crate::reading::put_numbers;
 use std::alloc::{AllocError, Global};
 
-/// A pause of a link. Its bytes from this place on come once the link of this number, from 0 over
-/// all wires of the row, was sent so many bytes.
+/// A pause of a link. Its bytes from the place `at` on come once another link was sent `sent`
+/// bytes. That is the link of this number, from 0 over all wires of the row.
 #[derive(Clone, Copy)]
 pub struct Pause {
     pub at: usize,

@@ -98,7 +98,7 @@ fn put_pixels(pixels: &[u8], out: &mut Vec<u8>) -> Result<(), AllocError> {
     Ok(())
 }
 
-/// Adds so many equal pixels.
+/// Adds `count` equal pixels.
 fn put_run(pixel: &[u8], count: u64, out: &mut Vec<u8>) -> Result<(), AllocError> {
     match count {
         0 => return Ok(()),

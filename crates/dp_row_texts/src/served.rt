@@ -358,7 +358,7 @@ impl Past {
 }
 
 /// Gives the first link of the wire of this number one pause: its bytes from this place on come
-/// when the second link was sent so many bytes.
+/// when the second link was sent this many bytes.
 fn put_pause(
     wires: &mut [Vec<Coming>],
     wire: usize,

@@ -16,7 +16,7 @@ struct Left<'a> {
 }
 
 impl<'a> Left<'a> {
-    /// Gives the next bytes that lie together, at most so many; none if nothing is left.
+    /// Gives the next bytes that lie together, at most `most`; none if nothing is left.
     fn next_bytes(&mut self, most: usize) -> &'a [u8]
         ensures { length result.now ≤ most }
     {

@@ -99,7 +99,7 @@ pub fn put_frames(
     Ok(true)
 }
 
-/// Adds a step that comes after so many frames: `x WORD` is sent, and another line is printed.
+/// Adds a step that comes after a number of frames: `x WORD` is sent, and another line is printed.
 fn put_step(
     alloc: Global,
     names: &Names<'_>,

@@ -7,7 +7,7 @@ use std::sync::Wait;
 use std::thread::Threads;
 
 /// Has the first call of an object fail, then the second, until one isn't made. Adds how many were
-/// made, with the status and the line on diag, and a line for each that gives another, or that
+/// made, with the status and the line on diag. Adds a line for each that gives another, or that
 /// wrote or sent what isn't a prefix.
 pub fn put_each<R: Threads + Wait + Sync>(
     rt: &R,

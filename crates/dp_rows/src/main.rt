@@ -4,11 +4,11 @@
 //!
 //! - `= NAME TEXT`: the word NAME of the lines below stands for TEXT. In hexadecimal that may be
 //!   several words, and `N*WORD` is one N times.
-//! - `> WORDS ..`: begins a row of the program's words. A word may also be an option of the row:
+//! - `> WORDS ..`: begins a row of the program's words. A word may also be an option of the row.
 //!   `pieces=1,5-9` gives the lengths of the pieces in which it reads and writes (else `1,7,4096`),
-//!   `room=N` how much the output takes; `input=2,7`, `output=..`, `diag=..`, `dial=..`,
+//!   and `room=N` how much the output takes. `input=2,7`, `output=..`, `diag=..`, `dial=..`,
 //!   `receive=..`, `send=..`, `rows=..` and `put=..` have the calls with these numbers fail,
-//!   counted from 1; `each=send` runs the row again with each call of that object failing in turn.
+//!   counted from 1. `each=send` runs the row again with each call of that object failing in turn.
 //! - `x WORDS`: bytes of the row's input, in words of hexadecimal, and `N*WORD` as above.
 //! - `wire` begins a further wire, and `link WORDS` has the bytes of a link to come. Among its
 //!   words `read=3` and `write=..` have these calls on that link fail. `@1:40` is a pause: the
@@ -16,7 +16,7 @@
 //! - `kept WORDS`: the rows of the store, a word each.
 //! - `repeat N LINE ; LINE`: these lines of the row's input, N times.
 //! - `table ..`: what is tried with the first link, and what is due then. `lies WORDS` are frames
-//!   that carry no message, `ends WORDS` such as end a link, and `instead WORDS` a painter's
+//!   that carry no message, and `ends WORDS` such as end a link. `instead WORDS` are a painter's
 //!   frames, each with what is placed for it. `writes N` has as many writes fail in turn. Of
 //!   `join`, `table 4 LINE` is printed after 4 frames, and `table 4 x WORD` sent. Of `serve`,
 //!   `placed WORDS` has what is placed for each frame of a link and for its end, `-` for nothing.
@@ -28,10 +28,10 @@
 //! server's workers, or by jobs of `play` and `drill`. A picture of bytes is printed as its head
 //! and its pixels, each with how often it stands there. A backslash ends a text that has no newline
 //! at its end. What a length of pieces gives otherwise than the first one follows after `differs`.
-//! If there is a table, the row runs again with the first link cut after each byte, with each of
-//! its frames replaced, and with each of its reads and writes failing. Where two wires have a link
-//! each, the second link is open before the damaged one begins and until that is over. `tried` says
-//! how many runs there were, and `differs` if one gave something else than is due.
+//! If there is a table, the row runs again with the first link cut after each byte. It runs with
+//! each of its frames replaced, and with each of its reads and writes failing. If two wires have a
+//! link each, the second link is open before the damaged one begins and until that is over. `tried`
+//! says how many runs there were, and `differs` if one gave something else than is due.
 #![tactic(auto)]
 
 mod each;

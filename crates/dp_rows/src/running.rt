@@ -93,8 +93,8 @@ fn store_of(alloc: Global, row: &Row, more: Option<Fail>) -> Result<MemKeeper, A
     keeper_of(alloc, &row.kept, reads, &puts)
 }
 
-/// What a server leaves: a line for each link and for each row that is kept, how often the gate was
-/// passed, and a line if a pause was given up.
+/// What a server leaves: a line for each link and for each row that is kept. Then how often the
+/// gate was passed, and a line if a pause was given up.
 fn left_by(
     alloc: Global,
     outcome: &Outcome<RowWire, MemKeeper>,

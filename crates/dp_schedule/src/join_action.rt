@@ -7,7 +7,7 @@ use dp_messages::Msg;
 pub enum JoinAction {
     /// It says a message, which joins its unanswered sends and goes out over the link.
     Say(Msg),
-    /// It takes so many entries of the link.
+    /// It takes `count` entries of the link.
     Take { count: u32 },
     /// The picture of its view is printed.
     View,

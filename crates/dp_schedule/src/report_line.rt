@@ -23,9 +23,9 @@ pub enum ReportLine {
     NameRefused,
     /// The session can keep no such event any more.
     Ended,
-    /// So many sends aren't answered.
+    /// This many sends aren't answered.
     Said(usize),
-    /// A reset of so many messages is on the uplink.
+    /// A reset of this many messages is on the uplink.
     Sent(usize),
     /// Nothing is on the uplink.
     Empty,

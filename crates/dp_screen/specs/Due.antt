@@ -44,8 +44,8 @@ ApartIsDueTwice Op =
     → due apart depth acts (record { user = user; act = Draw op }) Stranger said
     ≡ op ∷ op ∷ []
 
--- an act that moves a group may draw at most as many commands as there are acts from the Point of
--- that group on, and those of the fork
+-- An act that moves a group may draw few commands: at most as many as there are acts from the Point
+-- of that group on, and those of the fork.
 abbrev pub MoveIsDueFew : Type 0 → Type 0
 MoveIsDueFew Op =
     (apart : Op → Op → Bool) (depth : ℕ) (acts : List (UserAct Op)) (a : UserAct Op) (own : Own)

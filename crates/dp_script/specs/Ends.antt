@@ -17,7 +17,7 @@ abbrev pub IfEnded : {E : Type 0} → (E → Type 0) → Undone E → Type 0
 IfEnded P undone.NoStep = ⊤
 IfEnded P (undone.Ended end) = P end
 
--- the count of the input's faults after a run that ended so: a fault raised it, and else it stays
+-- the count of the input's faults after a run with this end: a fault raised it, and else it stays
 abbrev pub FaultMatchesInput : {E : Type 0} → ℕ → ℕ → ScriptEnd E → Type 0
 FaultMatchesInput before now Done = now ≡ before
 FaultMatchesInput before now (BadLine n) = now ≡ before

@@ -39,8 +39,8 @@ pub record IsNextOf (IsStep : List Line → Line → Type 0) (lines done : List 
   pub steps : AreSteps IsStep done
   pub fits : IsInLimit line
 
--- What a run that ends so leaves of an input, from its first moment to its last. The lines that
--- were done are those of the input, where its bytes are known: all that count, those before a bad
+-- What a run with this end leaves of an input, from its first moment to its last. The lines that
+-- were done are those of the input, if its bytes are known: all that count, those before a bad
 -- line, or those that are whole in what was taken before a fault.
 abbrev pub ScriptLeaves : {X E : Type 0} → (List Line → Line → Type 0)
     → (X → List Line → X → Type 0) → (X → List Line → Line → X → E → Type 0)

@@ -30,7 +30,7 @@ pub record IsEnding {X : Type 0} (IsStep : List Line → Line → Type 0)
     pub whole : lines ≡ done ++ lines_from held
     pub has : HasDone IsStep Does start done now
 
--- of the bytes of the input, of which so many count, these were taken and fed
+-- of the bytes of the input, of which `limit` count, these were taken and fed
 pub record HasRead {X : Type 0} (IsStep : List Line → Line → Type 0)
     (Does : X → List Line → X → Type 0) (limit : ℕ) (input left : Option (List ℕ)) (held : Held)
     (start now : X) : Type 0 where

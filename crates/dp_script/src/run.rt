@@ -14,14 +14,14 @@ use dp_lines::{Lines, further_step, lines_seen, still_left};
 use std::alloc::Global;
 
 /// Reads the lines of the input, of which `limit` bytes count, and has the machine do them one
-/// after the other. All lines that are whole in a piece are done before the next piece is read; a
+/// after the other. All lines that are whole in a piece are done before the next piece is read. A
 /// piece has at most 4096 bytes.
 ///
 /// # Errors
 ///
-/// It ends with `BadLine` at the first line that is no step, with `Long` if the input has more
-/// bytes than count, with `ReadFault` if it failed, with `Memory` if memory ran out for a
-/// line, and with `Ended` if a line ended the run.
+/// It ends with `BadLine` at the first line that is no step. It ends with `Long` if the input has
+/// more bytes than count, and with `ReadFault` if it failed. It ends with `Memory` if memory ran
+/// out for a line, and with `Ended` if a line ended the run.
 ///
 /// The rule: docs/protocol.md, "Lines".
 pub fn run_lines<I: Source, O, D, T, M: LineMachine<O, D, T>>(

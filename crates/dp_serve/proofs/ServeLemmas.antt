@@ -199,7 +199,7 @@ module _ {W R T : Type 0} (see : Seen W R T) (start : Past) (most : ℕ) where
 
 -- ---- a bound
 
--- so many links are no more than there are numbers of links
+-- the links to be served are no more than there are numbers of links
 pub most-small : (conns : Option ℕ) (most : ℕ) → most < 2 ^ 32
     → most ≡ unwrap_or conns (2 ^ 32 - 1) → most_links conns ≤ 2 ^ 32 - 1
 most-small None most fits is = omega arith

@@ -42,9 +42,9 @@ module _ {W R T : Type 0} where
   HasFailed see noted part =
       Rose (see.faults part.wire) (see.faults part.now) × (noted ≡ true)
 
-  -- The part of the worker of this number, by the session that was left: each link went as its
-  -- report tells, and it served so many links or all that were to come, unless memory ran out or
-  -- its wire failed.
+  -- The part of the worker of this number, by the session that was left. Each link went as its
+  -- report tells. It served `most` links or all that were to come, unless memory ran out or its
+  -- wire failed.
   pub record Fits (see : Seen W R T) (last : Past) (most : ℕ) (memory wire : Bool) (who : ℕ)
       (part : Part W R T) : Type 0 where
     pub each : AllByRecursion (IsRun see.link last who) part.runs

@@ -48,9 +48,9 @@ pub struct Served<W, K: Keeper> {
 }
 
 /// Serves a session. The connections that are open are closed first, by rising number, up to the
-/// first Close that is refused. Then there is a worker for each wire, all at the same time, each
-/// until it has served so many links (2^32 - 1 if no number is given), none is to come, or its
-/// wire fails. It waits for all of them. Each link that a wire handed out is handed back.
+/// first Close that is refused. Then there is a worker for each wire, all at the same time. Each
+/// works until it has served `conns` links (2^32 - 1 if no number is given), none is to come, or
+/// its wire fails. It waits for all of them. Each link that a wire handed out is handed back.
 ///
 /// If memory runs out, a worker ends or doesn't begin, and `memory` says so.
 pub fn serve<W: Wire + Send, K: Keeper + Send, G: Gate, R: Threads + Wait + Sync>(

@@ -150,8 +150,8 @@ module _ {A : Type 0} (p : A → Bool) where
   filter-all (a ∷ xs) all =
       rw (all a (inl refl)) (ap (λ l. a ∷ l) (filter-all xs (λ b h. all b (inr h))))
 
--- Beside each list stand others, which are all distinct. Where b stands beside each list that has
--- what passes, that is all in the one list beside which b stands.
+-- Beside each list stand others, which are all distinct. If b stands beside each list that has what
+-- passes, that is all in the one list beside which b stands.
 module _ {X A B : Type 0} (p : A → Bool) (f : X → List A) (g : X → List B) (b : B) where
   pub filter-one : (xs : List X) (y : X)
       → ((x : X) (a : A) → IsIn x xs → IsIn a (f x) → p a ≡ true → IsIn b (g x))

@@ -39,8 +39,8 @@ events_about conn (event ∷ events) (reply ∷ replies) =
     then event ∷ events_about conn events replies
     else events_about conn events replies
 
--- the events of a journal that are of the connection, in order; with the closings that were
--- refused, the journal tells which connection each Open gave out
+-- The events of a journal that are of the connection, in order. With the closings that were
+-- refused, the journal tells which connection each Open gave out.
 abbrev pub events_of : ℕ → List Event → List ShutAt → List Event
 events_of conn journal shut = events_about conn journal (state_after journal shut).answers
 

@@ -14,7 +14,7 @@ pub record IsResumed (past : Past) : Type 0 where
   pub unbroken : past.first_fault ≡ None
 
 -- The rows are those of the journal. Or the count of puts that failed rose from the one number to
--- the other, and they are those of the journal and of one event more.
+-- the other. Then they are those of the journal and of one event more.
 abbrev pub HoldRows : ℕ → ℕ → List Event → List Row → Type 0
 HoldRows before now journal rows =
     AreRowsOf rows journal ⊎ (Rose before now × (e : Event) × AreRowsOf rows (journal ++ e ∷ []))

@@ -1,5 +1,5 @@
-//! Laws of serving a session, each the contract of a function that does nothing: no two reports
-//! name one connection, what is acted and kept of a connection is what its link acted, and the
+//! Laws of serving a session, each the contract of a function that does nothing. No two reports
+//! name one connection. What is acted and kept of a connection is what its link acted, and the
 //! store holds the rows of what is kept.
 //!
 //! The rule: docs/protocol.md, "The server".

@@ -89,8 +89,8 @@ pub record HasAll (known : Option (List Row)) (tables : SessionLog) : Type 0 whe
   pub shut : tables.shut ≡ []
   pub quiet : tables.quiet ≡ []
 
--- There were more rows, of which there may be only so many, or there are no more; or one may not
--- stand.
+-- There were more rows, of which there may be at most `event_limit`, or there are no more; or one
+-- may not stand.
 abbrev pub ReadsNext : Option (List Row) → SessionLog → Result Bool ResumeFault → SessionLog
     → Type 0
 ReadsNext known old (Ok true) new =

@@ -102,7 +102,7 @@ in-either x (y ∷ xs) ys (inr later) = deeper (in-either x xs ys later)
     deeper (inl here) = inl (inr here)
     deeper (inr there) = inr there
 
--- a closing that was refused is that of the event, while so many were kept
+-- a closing that was refused is that of the event, while n were kept
 event-shut : (n : ℕ) (e : Event) (s : ShutAt) → IsIn s (shut_with n [] e)
     → (e ≡ event.Close s.conn) × (s.n ≡ n)
 event-shut n (event.Open name registered) s within = absurd within

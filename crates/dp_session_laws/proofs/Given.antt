@@ -37,7 +37,7 @@ rise-distinct low [] rise = tt
 rise-distinct low (n ∷ ns) rise =
     (λ within. omega (arith, rise-above n ns n rise.1 within), rise-distinct n ns rise.1)
 
--- of so many connections there are now so many, and these were given out
+-- of n connections there are now m, and these were given out
 abbrev Gives : ℕ → List ℕ → ℕ → Type 0
 Gives n given m = ((given ≡ []) × (m ≡ n)) ⊎ ((given ≡ (n + 1) ∷ []) × (m ≡ n + 1))
 

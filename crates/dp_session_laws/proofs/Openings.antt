@@ -1,4 +1,4 @@
--- The feed of a connection begins with an empty segment of the epoch in which it joined, and a feed
+-- The feed of a connection begins with an empty segment of the epoch in which it joined. A feed
 -- stays one while the session grows.
 use Rattle.std.proofs.Common.{◌≡◌, ◌⊎◌, ℕ, ◌+◌, ◌≤◌, Bool, true, false, List, [], ◌∷◌}
 use Rattle.std.proofs.Common.{length, Option, None, Some, Ok, Err, refl, sym, ap, subst}
@@ -98,8 +98,8 @@ feed-goes-on s t conn segments grows feed =
 
 -- ---- an Open
 
--- the connection was given out, its first feed is the empty segment, and its Leave, if it has one,
--- is in an epoch of the session
+-- The connection was given out, and its first feed is the empty segment. Its Leave, if it has one,
+-- is in an epoch of the session.
 pub record Begins (s : State) (conn epoch : ℕ) : Type 0 where
   pub connection : Connection
   pub is : connection_of s conn ≡ Some connection

@@ -38,7 +38,7 @@ pub record BadAfter (before : List Event) (rows : List Row) (n : ℕ) (row : Row
   pub at : slice_get rows n ≡ Some row
   pub bad : MayNotStand (before ++ c) row
 
--- the row next to these events isn't, where it stands
+-- a row that may stand after these events isn't the one that may not
 no-first : (before : List Event) (row other : Row) (rest : List Row) (e : Event)
     → slice_get (other ∷ rest) 0 ≡ Some row → MayNotStand (before ++ []) row
     → MayStand before other e → ⊥

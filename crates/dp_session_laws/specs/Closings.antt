@@ -30,8 +30,7 @@ Rise low (n ∷ more) = (low < n) × Rise n more
 
 -- ---- Closes that were refused
 
--- what an event of which that came adds to the closings that were refused, while so many events
--- were kept
+-- what an event of which that came adds to the closings that were refused, while n events were kept
 abbrev pub shut_by_outcome : ℕ → Event → ReplyOrMemory → List ShutAt
 shut_by_outcome n e (Ok Ended) = shut_with n [] e
 shut_by_outcome n e (Ok (StoreFault count)) = shut_with n [] e

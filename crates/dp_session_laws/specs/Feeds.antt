@@ -20,7 +20,7 @@ abbrev pub IsSegment : State → Segment → Type 0
 IsSegment s segment =
     (segment.epoch ≤ epoch_of s) × IsPrefix segment.entries (history_of s segment.epoch)
 
--- the segment does not go past the Leave of a connection that ended so
+-- the segment does not go past the Leave of a connection with this end
 abbrev pub IsWithin : Ending → Segment → Type 0
 IsWithin ending.Running segment = ⊤
 IsWithin (ending.Left place) segment =
@@ -40,9 +40,9 @@ RisesFrom epoch [] = ⊥
 RisesFrom epoch (segment ∷ segments) =
     (segment.epoch ≡ epoch) × RisesAbove segment.epoch segments
 
--- The segments are a feed of the connection of this number: the first one is of the epoch in which
--- the connection joined, and may be empty; the epochs rise; each is a prefix of the history of its
--- epoch; and none goes past the connection's Leave.
+-- The segments are a feed of the connection of this number. The first one is of the epoch in which
+-- the connection joined, and may be empty. The epochs rise. Each segment is a prefix of the history
+-- of its epoch, and none goes past the connection's Leave.
 pub record IsFeed (s : State) (conn : ℕ) (segments : List Segment) : Type 0 where
   pub connection : Connection
   pub is : connection_of s conn ≡ Some connection
@@ -54,7 +54,7 @@ pub record IsFeed (s : State) (conn : ℕ) (segments : List Segment) : Type 0 wh
 abbrev pub feed_entries : List Segment → List Entry
 feed_entries segments = flat_map (λ segment. segment.entries) segments
 
--- The last segment ends with the Leave of a connection that ended so, or an epoch was opened after
+-- By how the connection ended. The last segment ends with its Leave, or an epoch was opened after
 -- the Leave, or the connection was closed without one.
 abbrev pub EndsWith : State → Ending → Segment → Type 0
 EndsWith s ending.Running last = ⊥
@@ -74,8 +74,8 @@ abbrev pub IsGone : Past → ℕ → Segment → Type 0
 IsGone past conn last =
     Contains past.quiet conn ⊎ EndsWhere (state_of past) (connection_of (state_of past) conn) last
 
--- After the feed with this last segment, a Pull at its end that was answered by entries of an epoch
--- from a place on has led to another feed: these entries come after those so far.
+-- A Pull at the end of the feed with this last segment was answered by entries of an epoch from a
+-- place on. It has led to another feed: these entries come after those so far.
 pub record PullsOn (s : State) (conn : ℕ) (earlier : List Segment) (last : Segment)
     (epoch at : ℕ) (list : List Entry) : Type 0 where
   pub before : List Segment

@@ -27,8 +27,9 @@ pub fn one_resumption()
     rows_spell_events();
 }
 
-/// The store of a session goes on following it: where it begins with the rows of its journal, and
-/// over each step on an event that has a row and names a connection that was given out, if any.
+/// The store of a session follows it if it begins with the rows of its journal. It goes on
+/// following it over each step on an event that has a row. If the event names a connection, that
+/// was given out.
 pub fn steps_are_kept()
     ensures begun { (past : Past) → past.shut ≡ []
         → IfSome past.known (λ rows. AreRowsOf rows past.journal) → IsStored past }

@@ -57,7 +57,7 @@ pub fn answers_are_logs()
     steps_lead_on();
 }
 
-/// The closings that were refused go on by the Closes of the log that were answered Ended or
+/// The closings that were refused go on by Closes of the log: those that were answered Ended or
 /// StoreFault, each with how many events were kept before it.
 pub fn shuts_are_logs()
     ensures all { (past : Past) (log : List LogEntry) → IsSessionLog past log
@@ -146,7 +146,7 @@ pub fn pulls_go_on()
         → PullsOn (state_of past) conn earlier last epoch at list }
 {}
 
-/// Where a Pull at the end of a feed is answered that nothing is to come, the feed has ended.
+/// If a Pull at the end of a feed is answered that nothing is to come, the feed has ended.
 pub fn feeds_end()
     ensures { (past : Past) (log : List LogEntry) (conn user epoch at most : ℕ)
         (earlier : List Segment) (last : Segment)

@@ -15,9 +15,9 @@ use Rattle.dp_epochs.specs.Past.{state_of}
 use Rattle.dp_epochs.specs.Laws.{ArePermitted}
 use Rattle.dp_sim.specs.World.{World, participant_of}
 
--- What a client shows: it has taken the first `count` entries of the history of its epoch, its
--- confirmed canvas is these replayed from scratch without undone strokes, and its view the same
--- with the commands of its unanswered sends drawn after it.
+-- What a client shows. It has taken the first `count` entries of the history of its epoch. Its
+-- confirmed canvas is these replayed from scratch without undone strokes. Its view is the same with
+-- the commands of its unanswered sends drawn after it.
 pub record ShowsPrefix (s : State) (c : client.State) : Type 0 where
   pub count : ℕ
   pub taken : c.taken ≡ take count (history_of s c.epoch)

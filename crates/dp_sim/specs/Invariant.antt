@@ -37,9 +37,9 @@ is_closed Connected = false
 is_closed Leaving = false
 is_closed Closed = true
 
--- the client of a number: its connection has the same number and is open unless the client is
--- closed, and it has taken a prefix of the history of its epoch, which is that of its join or a
--- later one
+-- The client of a number. Its connection has the same number, and is open unless the client is
+-- closed. It has taken a prefix of the history of its epoch, which is that of its join or a later
+-- one.
 pub record IsParticipant (s : State) (number : ℕ) (participant : Participant) : Type 0 where
   pub conn : participant.conn ≡ number
   pub running : MatchBool (is_closed participant.link) (Unit {0})

@@ -26,9 +26,9 @@ pub data Queued : Type 0 where
   Resetting : Bool → Queued
   Parting : Queued
 
--- A move of a client: none; messages join its uplink; the session takes the first of them, and the
--- others are left; the client takes the next entry; or its connection is closed, after the session
--- took a Disconnect of it or without one.
+-- A move of a client. It may be none. Messages join its uplink. Or the session takes the first of
+-- them, and the others are left. Or the client takes the next entry. Or its connection is closed,
+-- after the session took a Disconnect of it or without one.
 pub data Move : Type 0 where
   Rests : Move
   Queues : Queued → Move
@@ -115,8 +115,8 @@ IsQueuedBy instruction (Saying m) = instruction ≡ Say m
 IsQueuedBy instruction (Resetting keeps) = instruction ≡ Reset keeps
 IsQueuedBy instruction Parting = instruction ≡ Leave
 
--- A move of the instruction that may be made: only a connected client queues, and only one that
--- isn't closed sends, takes or closes; what is sent is the first message of the uplink, and what is
+-- A move of the instruction that may be made. Only a connected client queues, and only one that
+-- isn't closed sends, takes or closes. What is sent is the first message of the uplink, and what is
 -- taken the next entry.
 abbrev pub IsMoveBy : Exchange → Instruction → Move → Type 0
 IsMoveBy t instruction Rests = Unit {0}

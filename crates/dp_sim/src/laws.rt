@@ -47,7 +47,7 @@ pub fn forbidden_changes_nothing()
     others_do_not_count::<Draw>();
 }
 
-/// After every schedule each client has taken a prefix of the history of its epoch; its confirmed
+/// After every schedule each client has taken a prefix of the history of its epoch. Its confirmed
 /// canvas is that prefix replayed, and its view the same with its unanswered sends drawn after it.
 /// A message that is not permitted changes no canvas and no right: what is answered Filtered
 /// doesn't, and no history holds an entry that its user was not permitted to send.

@@ -332,7 +332,7 @@ low-kind (msg.Part command) send = refl
 low-kind m send = cc
 
 -- What is ignored is no acknowledgement that counts, and no send of a connection that has taken up
--- the epoch; that epoch is acknowledged; and what is placed is a send.
+-- the epoch. That epoch is acknowledged, and what is placed is a send.
 abbrev pub IsOf : State → Connection → Msg → Decision → Type 0
 IsOf s c m decision.Ignore =
     ((has_acknowledged s c || is_ack (epoch_of s) m) ≡ has_acknowledged s c)
@@ -727,8 +727,8 @@ passes-effect s e effect cause h = record {
   stay = effect-stay s e effect cause;
 }
 
--- Its connection is open, of the user, and has taken up the live epoch, in which the Join stands;
--- no answer of the user's stands after that.
+-- Its connection is open, of the user, and has taken up the live epoch, in which the Join stands.
+-- No answer of the user's stands after that.
 pub record Welcomes (conn user epoch at : ℕ) (t : State) : Type 0 where
   pub connection : Connection
   pub found : open_connection t conn ≡ Some connection

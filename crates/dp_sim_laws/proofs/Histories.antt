@@ -164,15 +164,15 @@ entries-spelled s e effect cause spelled = All-nil (λ (e : Entry). HasSpelling 
 
 -- ---- states
 
--- a past of so many events has come to the state
+-- a past of n events has come to the state
 pub record Came (n : ℕ) (s : State) : Type 0 where
   pub past : Past
   pub before : ShutBefore past
   pub is : state_of past ≡ s
   pub many : length past.journal ≡ n
 
--- What is true of a state after so many events: the entries of its histories have a spelling, and
--- so have the commands of the reset that is being sent, which aren't too many.
+-- What is true of a state after n events: the entries of its histories have a spelling, and so have
+-- the commands of the reset that is being sent, which aren't too many.
 pub record IsSpelledState (n : ℕ) (s : State) : Type 0 where
   pub came : Came n s
   pub ended : All AreSpelledEntries s.ended

@@ -281,8 +281,8 @@ module _ (laws : Leading) (moves : InstructionsAreMoves)
       may w (Show actor kind) = tt
 
   module _ (rest : List Reply) where
-    -- along the actions the parts that are left are noted and the end opens the epoch, if the
-    -- begin was noted and these parts after it
+    -- If the begin was noted and these parts after it, the parts that are left are noted along the
+    -- actions. The end opens the epoch.
     abbrev Sends : List Action → Type 0
     Sends actions =
         (w : World) (so_far todo : List Draw) (p : Participant) (behind : List Msg) → IsWorld w
@@ -371,7 +371,7 @@ module _ (laws : Leading) (moves : InstructionsAreMoves)
             (go v (so_far ++ command ∷ []) left q behind world' there still (now ∙ after_is) owned
             others)
 
-    -- the same, where the reset stands on the uplink after other messages, with its begin
+    -- the same, if the reset stands on the uplink after other messages, with its begin
     abbrev SendsAfter : Msg → List Action → Type 0
     SendsAfter begin actions =
         (w : World) (commands : List Draw) (p : Participant) (ahead behind : List Msg) → IsWorld w

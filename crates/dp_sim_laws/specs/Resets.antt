@@ -56,9 +56,9 @@ abbrev pub taken_up : List Draw → ℕ → List Reply
 taken_up commands epoch =
     reply.Noted ∷ map (λ command. reply.Noted) commands ++ reply.Placed epoch 0 ∷ []
 
--- The client of the number, which was so after the actions before, resets, by a reset that keeps or
--- not; and among the answers along the actions after that, those to the messages of the reset are
--- such ones. As many answers come first as messages stood on its uplink.
+-- The client of the number, which was `sender` after the actions before, resets, by a reset that
+-- keeps or not. Among the answers along the actions after that, those to the messages of the reset
+-- take it up. As many answers come first as messages stood on its uplink.
 pub record IsTakenUp (before later : List Action) (number : ℕ) (keeps : Bool) (sender : Participant)
     (epoch : ℕ) : Type 0 where
   pub found : participant_of (world_after before) number ≡ Some sender
@@ -71,14 +71,14 @@ pub record IsTakenUp (before later : List Action) (number : ℕ) (keeps : Bool) 
 -- ---- what a client shows
 
 -- The entries that a reset keeps with which the epoch of this number opened, of the history of the
--- epoch before: those that go on from the place after what its sender had taken. Where the reset
+-- epoch before: those that go on from the place after what its sender had taken. If the reset
 -- doesn't keep, there are none.
 abbrev pub kept_over : Bool → client.State → State → ℕ → List Entry
 kept_over keeps sender s epoch =
     kept_entries (place_in (reset_begin keeps (length sender.taken))) (history_of s (epoch - 1))
 
--- Where the client has taken all with which its epoch opened, these kept entries at its end, and
--- more, it shows the board with these and the more drawn after it, from the depth of undo on that
+-- Suppose the client has taken all with which its epoch opened, these kept entries at its end, and
+-- more. Then it shows the board with these and the more drawn after it, from the depth of undo that
 -- the opening carried.
 abbrev pub GoesOnFrom : Board → List Entry → client.State → Type 0
 GoesOnFrom board kept c =
@@ -86,8 +86,8 @@ GoesOnFrom board kept c =
     → length (opening ++ kept) ≡ carried_in c.taken + 1
     → client.confirmed c ≡ replay_from draw board (depth_in_force opening) (kept ++ more)
 
--- Where the client has taken all with which its epoch opened, and more, it shows what the history
--- shows with the more after it, if that may be cut at the place.
+-- Suppose the client has taken all with which its epoch opened, and more. Then it shows what the
+-- history shows with the more after it, if that may be cut at the place.
 abbrev pub ShowsOn : ℕ → List Entry → client.State → Type 0
 ShowsOn place history c =
     (opening more : List Entry) → c.taken ≡ opening ++ more

@@ -37,8 +37,8 @@ pub fn clients_go_by_their_steps()
     instructions_are_moves();
 }
 
-/// After a schedule of such messages as lines say, in which no event was answered Ended, a client's
-/// fork is its sends without the first n, n the number of own answers that it has taken.
+/// After a schedule of such messages as lines say, if no event was answered Ended, a client's fork
+/// is its sends without the first n. It has taken n own answers.
 pub fn forks_are_plain()
     ensures few { (actions : List Action) (number : ℕ) → IsUnended actions
         → IfSome (participant_of (world_after actions) number) (λ participant.
@@ -78,8 +78,8 @@ pub fn no_fork_is_lost()
     entries_are_taken();
 }
 
-/// In a session whose messages have a spelling, as many as may be kept, so has each entry of each
-/// epoch, and so have those with which it opened.
+/// In a session whose messages have a spelling, as many as may be kept, each entry of each epoch
+/// has one. So have those with which it opened.
 pub fn histories_are_spelled()
     ensures { (past : Past) (epoch : ℕ) → All IsSpelledEvent past.journal
         → length past.journal ≤ event_limit → AreSpelledEntries (history_of (state_of past) epoch) }
@@ -106,10 +106,10 @@ pub fn schedules_are_spelled()
     snapshots_are_spelled();
 }
 
-/// Where each message of a client's reset was taken up, its begin and its parts noted and its end
-/// the opening of an epoch, every client of that epoch that has taken the opening whole shows the
-/// sender's confirmed canvas as it was at the reset. What the reset keeps is drawn after it, where
-/// it keeps, and then what the client has taken more.
+/// The premise: each message of a client's reset was taken up, its begin and its parts noted and
+/// its end the opening of an epoch. Then every client of that epoch that has taken the opening
+/// whole shows the sender's confirmed canvas as it was at the reset. What the reset keeps is drawn
+/// after it, if it keeps, and then what the client has taken more.
 pub fn resets_show_the_senders_canvas()
     ensures { (before later : List Action) (number epoch : ℕ) (keeps : Bool) (sender : Participant)
         → All SaysSpelled before → IsTakenUp before later number keeps sender epoch → (other : ℕ)
@@ -133,10 +133,10 @@ pub fn resets_show_the_senders_canvas()
     entries_are_taken();
 }
 
-/// If a client's reset that keeps was taken up in the epoch in which it was sent, every client of
-/// the next epoch shows what the history of the epoch before shows, with what it has taken more,
-/// once it has taken the opening whole. The premise: that history may be cut at the place up to
-/// which the sender had taken it.
+/// A client's reset that keeps was taken up in the epoch in which it was sent. Then every client of
+/// the next epoch shows what the history of the epoch before shows, once it has taken the opening
+/// whole. What it has taken more is drawn after that. The premise: that history may be cut at the
+/// place up to which the sender had taken it.
 pub fn keeps_show_the_session()
     ensures { (before later : List Action) (number epoch : ℕ) (sender : Participant)
         → All SaysSpelled before → IsTakenUp before later number true sender epoch

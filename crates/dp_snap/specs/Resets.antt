@@ -5,7 +5,7 @@ use Rattle.dp_msg_meta.specs.declared.message.Control.TheVariants.{ResetBegin, R
 use Rattle.dp_messages.specs.declared.message.Msg.{Msg}
 use Rattle.dp_messages.specs.declared.message.Msg.TheVariants as msg
 
--- How a reset begins whose sender has taken so many entries of its epoch. One that keeps names the
+-- How a reset begins whose sender has taken `taken` entries of its epoch. One that keeps names the
 -- place after them, from which on the entries of the history are kept.
 abbrev pub reset_begin : Bool → ℕ → Msg
 reset_begin keeps taken = msg.Control (if keeps then ResetFrom taken else ResetBegin)

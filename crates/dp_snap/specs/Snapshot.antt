@@ -31,7 +31,7 @@ abbrev pub create_of : LayerRow → Draw
 create_of row = draws.LayerCreate row.id 0 row.group row.title
 
 -- LayerMove of each row that isn't at the root into its parent, directly after the row before it in
--- the list, whose id is `above` (0 for the first row)
+-- the list. That row's id is `above` (0 for the first row).
 abbrev pub moves_after : ℕ → List LayerRow → List Draw
 moves_after above [] = []
 moves_after above (row ∷ rows) =
@@ -67,8 +67,8 @@ abbrev pub layer_puts : Board → LayerRow → List Draw
 layer_puts board row =
     if row.group then [] else puts_of board.width board.height row.id (pixels_of board row.id)
 
--- The commands: the sides and the background, the rows in the order of the list, first each at the
--- root and then in its place, how they show, and the tiles of the paint rows.
+-- The commands. First the sides and the background. Then the rows in the order of the list, each at
+-- the root, and then each in its place. Last, how they show, and the tiles of the paint rows.
 abbrev pub snapshot : Board → List Draw
 snapshot board =
     side_commands board ++ background_commands board ++ map create_of (layers_of board.rows)

@@ -22,17 +22,17 @@ abbrev pub pixels_of_tile : ℕ → ℕ → List Channels → ℕ → ℕ → Li
 pixels_of_tile width height pixels col row =
     canvas_of 64 64 (λ x y. pixel_of width height pixels (pos (col * 64 + x)) (pos (row * 64 + y)))
 
--- how many of the 64 columns of a tile are on the canvas, by its width and the number of the tile's
--- column; or how many of the 64 rows, by its height and the number of the tile's row
+-- How many of the 64 columns of a tile are on the canvas, by its width and the number of the tile's
+-- column. Or how many of the 64 rows, by its height and the number of the tile's row.
 abbrev pub shown_of : ℕ → ℕ → ℕ
 shown_of side number = min 64 (side - number * 64)
 
--- the pixels of a tile that are on the canvas, if so many of its columns and rows are
+-- the pixels of a tile that are on the canvas, if its first `cols` columns and `rows` rows are
 abbrev pub on_canvas : ℕ → ℕ → List Channels → List Channels
 on_canvas cols rows tile = canvas_of cols rows (pixel_at 64 tile)
 
--- What is put into a tile of these pixels. Where those on the canvas are equal, it is that one
--- pixel, or nothing if it is clear; else it is each of the 4096.
+-- What is put into a tile of these pixels. If those on the canvas are equal, it is that one pixel,
+-- or nothing if it is clear; else it is each of the 4096.
 abbrev pub content_of_tile : ℕ → ℕ → List Channels → Option TileContent
 content_of_tile cols rows tile =
     let corner = pixel_at 64 tile 0 0 in

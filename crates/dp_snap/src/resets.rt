@@ -6,7 +6,7 @@ ghost use Rattle.dp_snap.specs.Resets.{reset_begin};
 use dp_messages::Msg;
 use dp_msg_meta::Control;
 
-/// The message by which a reset begins whose sender has taken so many entries of its epoch. It is
+/// The message by which a reset begins whose sender has taken `taken` entries of its epoch. It is
 /// one that keeps what comes after them, or one that doesn't.
 ///
 /// The rule: docs/protocol.md, "The world".

@@ -23,8 +23,8 @@ pub(crate) const SIDE: usize = 64;
 /// How many pixels a tile has.
 pub(crate) const COUNT: usize = SIDE * SIDE;
 
-/// How many columns of a tile are on the canvas, by its width and the number of the tile's column;
-/// or how many rows, by its height and the number of the tile's row.
+/// How many columns of a tile are on the canvas, by its width and the number of the tile's column.
+/// Or how many rows, by its height and the number of the tile's row.
 pub(crate) fn shown_of(side: u32, number: u32) -> usize
     requires { number ≤ 64 }
     ensures { result ≡ shown_of side number }
@@ -63,7 +63,8 @@ fn read_part<V: BoardView>(canvas: &V, id: u16, x: u32, y: u32, part: &mut [Pixe
     row_fill(Mode::Replace, Pixel::CLEAR, past);
 }
 
-/// What is put into a tile of these pixels, of which so many columns and rows are on the canvas.
+/// What is put into a tile of these pixels, of which `cols` columns and `rows` rows are on the
+/// canvas.
 pub(crate) fn tile_content(
     alloc: Global,
     cols: usize,

@@ -33,7 +33,7 @@ use Rattle.dp_snap_laws.proofs.Lists.{fold-flat_map}
 -- ---- steps numbered from a first one on
 
 module _ {S : Type 0} (step : ℕ → S → S) (limit : ℕ) where
-  -- the steps of so many numbers
+  -- the steps of the n numbers from a on
   abbrev pub after_steps : ℕ → ℕ → S → S
   after_steps a n s = fold (λ t k. step k t) s (range_with_len a n)
 

@@ -46,7 +46,7 @@ page-of-prefix written rest live end at count all within before some =
       most : (n : ℕ) → 0 < n → n ≡ max 1 n
       most n le = omega (arith, le)
 
--- there are so many
+-- there are `count` of them
 pub length-of-prefix : (written : List Entry) (at count : ℕ) → at + count ≤ length written
     → count ≡ length (take count (drop at written))
 length-of-prefix written at count within =

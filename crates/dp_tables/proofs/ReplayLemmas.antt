@@ -24,7 +24,7 @@ none-found (Some x) A B not h = absurd (not x refl)
 abbrev pub OneLength : Type 0
 OneLength = (bytes : List ℕ) (e : Event) → RowSpells bytes e → length bytes ≡ length (row_of e)
 
--- there is room for the event exactly if there is for so many bytes
+-- there is room for the event exactly if there is for n bytes
 room-is : OneLength → (journal : List Event) (row : Row) (e : Event) (n : ℕ) → n ≡ length row.bytes
     → RowSpells row.bytes e
     → (nat_lt (length journal) event_limit && nat_le (row_bytes journal + n) byte_limit)

@@ -5,7 +5,7 @@ use Rattle.dp_epochs.specs.declared.event.Event.{Event}
 use Rattle.dp_epochs.specs.Resumed.{MayStand, MayNotStand}
 use Rattle.dp_tables.specs.SessionLog.{SessionLog}
 
--- Where the row may stand after those of the events so far, its event joins them; if it may not,
+-- If the row may stand after those of the events so far, its event joins them; if it may not,
 -- nothing changes.
 abbrev pub Replays : SessionLog → Row → Bool → SessionLog → Type 0
 Replays old row true new =

@@ -202,7 +202,7 @@ fn place_in(event: &Event) -> Option<u32>
     }
 }
 
-/// Notes from where on a reset keeps entries, where the event begins one.
+/// Notes from where on a reset keeps entries, if the event begins one.
 fn note_place(place: &mut Option<u32>, effect: Effect, event: &Event)
     ensures { place.new ≡ next_place event.now effect place.old }
 {
@@ -246,8 +246,8 @@ fn follow(
     }
 }
 
-/// Adds the connection of the user who joins, or changes that of the one who takes up the epoch or
-/// leaves, by the event of this number.
+/// By the event of this number, adds the connection of the user who joins. Or it changes that of
+/// the one who takes up the epoch or leaves.
 fn make(
     connections: &mut Vec<Connection>,
     quiet: &mut Vec<bool>,

@@ -47,7 +47,7 @@ use std::alloc::{AllocError, Global};
 /// The most entries of a page.
 const PAGE: usize = 1 << 10;
 
-/// Entries that were put as frames: so many of an epoch, from this place on.
+/// Entries that were put as frames: a number of those of an epoch, from this place on.
 #[derive(Clone, Copy)]
 pub struct Page {
     pub epoch: u32,

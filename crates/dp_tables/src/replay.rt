@@ -55,7 +55,7 @@ impl Tables {
         }
     }
 
-    /// What the event, whose row has this length, does to the session, and what it places beside
+    /// What the event, whose row has this length, does to the session. Then what it places beside
     /// what it says, with memory ready to keep it.
     fn ready_for(&mut self, event: &Event, row: usize) -> Result<(Effect, Supply), AllocError>
         requires { row ≡ length (row_of event.now) }

@@ -45,8 +45,8 @@ const PART_LIMIT: usize = 262_144;
 /// The most bytes that the payloads of its parts have.
 const BYTE_LIMIT: u64 = 1 << 28;
 
-/// From where on a history, which ends there, is kept by the reset of the connection, if it sends
-/// one, by the place that it names.
+/// From where on a history, which ends at `end`, is kept by the reset that the connection sends, if
+/// any. The reset names the place.
 pub(crate) fn start_of(owner: Option<u32>, place: Option<u32>, end: usize) -> usize
     ensures { result ≡ start_of owner place end }
 {

@@ -294,7 +294,7 @@ static NUMBERS: [(&str, &str, Option<&[u64]>); 14] = [
     ("drill|--seed|1|2", "seed", None),
 ];
 
-/// The numbers of 64 bits that the words give to a name, where they are words of a form.
+/// The numbers of 64 bits that the words give to a name, if they are words of a form.
 fn numbers_of(rt: &impl Abort, alloc: Global, line: &str, id: &str) -> Option<Vec<u64>> {
     let words = words_of(rt, alloc, line);
     let program = program_of(alloc, "test", &FORMS).expect(rt, "memory");

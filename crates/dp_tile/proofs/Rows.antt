@@ -22,7 +22,7 @@ abbrev pub AllLong : {X : Type 0} → ℕ → List (List X) → Type 0
 AllLong size rows = All (λ row. length row ≡ size) rows
 
 module _ {X : Type 0} (size : ℕ) where
-  -- rows of one length have so many elements
+  -- how many elements rows of one length have
   pub length-joined : (rows : List (List X)) → AllLong size rows
       → length (joined rows) ≡ length rows * size
   length-joined [] long = sym (zero-mul size)

@@ -21,7 +21,7 @@ part_of_one_color p x y n within inside =
     ∙ sym (pixel-tile_of p (y * 64 + (x + i)) (omega (arith, within, inside, few)))))
     ∙ ap (λ k. replicate k p) (sym (length-part_of_row 64 (tile_of p) x y n))
 
--- so many pixels of a row of a grid
+-- n pixels of a row of a grid
 pub length-part_of_grid : (g : TileGrid) (x y n : ℕ) → length (part_of_grid g x y n) ≡ n
 length-part_of_grid g x y n =
     length-map (below n) (λ i. grid_pixel g (x + i) y) ∙ length-range_with_len 0 n

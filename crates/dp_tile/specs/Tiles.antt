@@ -40,12 +40,12 @@ pub record IsGrid (g : TileGrid) : Type 0 where
   pub cells : length g.cells ≡ g.cols * g.rows
   pub pixels : All (λ cell. length cell ≡ 4096) g.cells
 
--- a row of so many cells, with 4096 pixels in each
+-- a row of `cols` cells, with 4096 pixels in each
 pub record IsCellRow (cols : ℕ) (row : List (List Channels)) : Type 0 where
   pub cells : length row ≡ cols
   pub pixels : All (λ cell. length cell ≡ 4096) row
 
--- so many rows of cells, each of this many columns
+-- `rows` rows of cells, each of `cols` columns
 pub record IsCellRows (cols rows : ℕ) (all : List (List (List Channels))) : Type 0 where
   pub few_cols : cols ≤ 64
   pub few_rows : rows ≤ 64
@@ -89,7 +89,7 @@ grid_pixel g x y = pixel_at 64 (cell_at g (x / 64) (y / 64)) (x % 64) (y % 64)
 abbrev pub grid_pixels : ℕ → ℕ → TileGrid → List Channels
 grid_pixels width height g = canvas_of width height (grid_pixel g)
 
--- so many pixels of the row y of a grid, from x on
+-- `count` pixels of the row y of a grid, from x on
 abbrev pub part_of_grid : TileGrid → ℕ → ℕ → ℕ → List Channels
 part_of_grid g x y count = map (λ i. grid_pixel g (x + i) y) (below count)
 

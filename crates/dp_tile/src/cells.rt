@@ -34,7 +34,7 @@ impl Model for Cells {
 }
 
 impl Cells {
-    // So many rows of so many slots without tiles.
+    // `rows` rows of `cols` slots without tiles.
     pub(crate) fn clear(alloc: Global, cols: usize, rows: usize) -> Result<Cells, AllocError>
         ensures { IfOk result (λ cells. cells ≡ replicate rows (replicate cols (tile_of clear))) }
     {
@@ -42,7 +42,7 @@ impl Cells {
         Ok(Cells { rows: Some(rows) })
     }
 
-    // The same rows once more. It costs the same whatever their number.
+    // Another handle on the rows. It costs the same whatever their number.
     pub(crate) fn share(&self) -> Result<Cells, AllocError>
         ensures { IfOk result (λ cells. cells ≡ self.now) }
     {
@@ -178,7 +178,7 @@ impl Cells {
     }
 }
 
-// So many rows of so many slots without tiles. They have their slots in common.
+// `count` rows of `cols` slots without tiles. They have their slots in common.
 fn clear_rows(alloc: Global, cols: usize, count: usize) -> Result<Vec<Row>, AllocError>
     ensures { IfOk result (λ rows.
         rows.items ≡ replicate count (replicate cols (tile_of clear))) }

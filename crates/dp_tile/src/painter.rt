@@ -25,15 +25,15 @@ pub trait TilePainter {
     ghost keeps_count: { (painter : Self) (col row : ℕ) (pixels : List Channels)
         → length pixels ≡ 4096 → length (painted painter col row pixels) ≡ 4096 };
 
-    /// What it does to the tile at a column and a row, as far as it is known from the colour of all
-    /// the tile's pixels, if they have one.
+    /// What it does to the tile at a column and a row, as far as that is known. It goes by the
+    /// colour of all the tile's pixels, if they have one.
     fn change(&self, col: u32, row: u32, color: Option<Pixel>) -> TileChange
         requires col { col < 64 }
         requires row { row < 64 }
         ensures { KnownChange result color (painted self.now col row) };
 
-    /// What it does to each tile of a row of tiles, from the column `left` on before `right`, as
-    /// far as it is known if all their pixels are of this colour.
+    /// What it does to each tile of a row of tiles, from the column `left` on before `right`. It
+    /// says what is known if all their pixels are of this colour.
     fn change_row(&self, row: u32, left: u32, right: u32, color: Pixel) -> TileChange
         requires row { row < 64 }
         requires order { left < right }

@@ -87,7 +87,7 @@ impl Palette {
         Ok(other)
     }
 
-    // A row of so many slots of this colour. It is made if none is kept.
+    // A row of slots of this colour, as many as asked for. It is made if none is kept.
     #[inline(never)]
     pub(crate) fn row<T: Ledger>(
         &mut self,

@@ -31,14 +31,14 @@ impl Model for Row {
 }
 
 impl Row {
-    // So many slots without tiles.
+    // `count` slots without tiles.
     pub(crate) fn clear(alloc: Global, count: usize) -> Result<Row, AllocError>
         ensures { IfOk result (λ row. row ≡ replicate count (tile_of clear)) }
     {
         Row::solid(alloc, count, &Slot::clear())
     }
 
-    // So many slots that have the same tile.
+    // `count` slots that have the same tile.
     pub(crate) fn solid(alloc: Global, count: usize, slot: &Slot) -> Result<Row, AllocError>
         ensures { IfOk result (λ row. row ≡ replicate count slot.now) }
     {
@@ -67,7 +67,7 @@ impl Row {
         Some(color)
     }
 
-    // The same slots once more.
+    // Another handle on the slots.
     pub(crate) fn share(&self) -> Result<Row, AllocError>
         ensures { IfOk result (λ row. row ≡ self.now) }
     {
@@ -131,7 +131,7 @@ impl Row {
     }
 }
 
-// So many slots that have the same tile.
+// `count` slots that have the same tile.
 fn solid_slots(alloc: Global, count: usize, slot: &Slot) -> Result<Vec<Slot>, AllocError>
     ensures { IfOk result (λ slots. slots.items ≡ replicate count slot.now) }
 {

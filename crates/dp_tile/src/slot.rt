@@ -96,7 +96,7 @@ impl Slot {
         }
     }
 
-    // A part of the row y: so many pixels from x on.
+    // A part of the row y: `count` pixels from x on.
     pub(crate) fn stretch(&self, x: usize, y: usize, count: usize) -> Stretch<'_>
         requires within { x + count ≤ 64 }
         requires y { y < 64 }
@@ -200,8 +200,8 @@ impl Slot {
         }
     }
 
-    // Paints the pixels, of the tile at a column and a row: on the tile itself where it is this
-    // slot's alone, and else beside it.
+    // Paints the pixels, of the tile at a column and a row: on the tile itself if it is this slot's
+    // alone, and else beside it.
     #[inline(never)]
     pub(crate) fn paint_pixels<P: TilePainter, T: Ledger>(
         &mut self,

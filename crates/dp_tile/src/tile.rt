@@ -23,8 +23,8 @@ pub const SIDE: usize = 64;
 const COUNT: usize = SIDE * SIDE;
 
 /// A square of 64 by 64 pixels. It is seen as their list, row by row from the top, each row from
-/// the left. Where it is known to be of one colour, it is marked with that, and what it holds
-/// doesn't count. Its room is taken when it is made. None is built without being counted.
+/// the left. If it is known to be of one colour, it is marked with that, and what it holds doesn't
+/// count. Its room is taken when it is made. None is built without being counted.
 #[derive(Drop)]
 pub struct Tile {
     pixels: Vec<Pixel>,
@@ -173,7 +173,7 @@ impl Tile {
         pixels[y * SIDE + x] = p;
     }
 
-    // A part of the row y: so many pixels from x on.
+    // A part of the row y: `count` pixels from x on.
     pub(crate) fn stretch(&self, x: usize, y: usize, count: usize) -> Stretch<'_>
         requires within { x + count ≤ 64 }
         requires y { y < 64 }

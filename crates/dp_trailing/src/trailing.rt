@@ -169,7 +169,7 @@ impl<B: Board> TrailingBoard<B> {
         Ok(())
     }
 
-    /// Where many acts are held, draws those that no act can move any more, and lets them go.
+    /// If many acts are held, draws those that no act can move any more, and lets them go.
     fn settle<D: Ledger, T: Ledger>(
         &mut self,
         draws: &mut Steps<D>,

@@ -82,7 +82,7 @@ ends_of bytes left board all (BadMessage cause n) ends trails = ((all, ends.0), 
 ends_of bytes left board all Long ends trails = ((all, ends.0), ends.1)
 ends_of bytes left board all Memory ends trails = tt
 
--- reading ended so
+-- reading ended with this
 pub told_end : (input left now : Option (List ℕ)) (board : Trailing Board Draw) (r : Reader)
     (end : ReadEnd DecodeError)
     → r.first ≡ 0 → r.limit ≡ stream_limit

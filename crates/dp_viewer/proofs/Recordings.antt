@@ -22,8 +22,8 @@ use Rattle.dp_viewer.specs.Ways.{first_of, play_way}
 use Rattle.dp_viewer.specs.Reading.{AreDue, EndsReading, FaultMatchesWay, ReadsToEnd}
 use Rattle.dp_viewer.specs.Reading.{TrailsShown}
 
--- What was read of an input whose bytes are known, of which those are left: the board trails what
--- the first entries show, so many or all, of those that a reader gave, and `due` are left to show.
+-- What was read of an input whose bytes are known, of which those are left. Of the entries that a
+-- reader gave the board trails what the first `at` show, or all. Of them `due` are left to show.
 abbrev pub ShowsFirst : Option ℕ → Option (List ℕ) → Option (List ℕ) → Trailing Board Draw
     → Option ℕ → Phase → Type 0
 ShowsFirst at input left board due reader =
@@ -97,7 +97,7 @@ ends-of at bytes left board all ReadFault ends trails = ends
 ends-of at bytes left board all Long ends trails = ((all, ends.0), ends.1)
 ends-of at bytes left board all Memory ends trails = tt
 
--- reading ended so
+-- reading ended with this
 pub shows-end : (at : Option ℕ) (input left now : Option (List ℕ)) (board : Trailing Board Draw)
     (due : Option ℕ) (old : Phase) (error : RecError)
     → ((bytes : List ℕ) (es : List Entry) → HasReadOf bytes left es old

@@ -46,9 +46,9 @@ StopsAtCause way input left end =
     IfSome input (λ bytes. ((entries : List Entry) × way.comes bytes entries end)
     × way.took 4096 bytes left)
 
--- What a run that ends so leaves of an input and on the output: the picture of the entries of the
--- whole frames that are shown, a prefix of it, or nothing. If the input failed, what was taken
--- of it holds no cause.
+-- What a run with this end leaves of an input and on the output: the picture of the entries of the
+-- whole frames that are shown, a prefix of it, or nothing. If the input failed, what was taken of
+-- it holds no cause.
 abbrev pub PictureLeaves : Way → Option (List ℕ) → Option (List ℕ) → Option (List ℕ)
     → Option (List ℕ) → RunEnd → Type 0
 PictureLeaves way input left old new Done = IsAtEnd left × ShowsWhole way input old new Done

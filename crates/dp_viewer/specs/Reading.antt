@@ -25,11 +25,11 @@ abbrev pub TrailsShown : Trailing Board Draw → List Entry → Type 0
 TrailsShown board entries =
     Trails draw empty_board undo_depth (map user_act_of (after_last is_mark entries)) board
 
--- so many of the first entries are left to show after others, or all
+-- how many of the first `at` entries are left to show after others, or all
 abbrev pub AreDue : Option ℕ → List Entry → Option ℕ → Type 0
 AreDue at entries due = due ≡ option_map (λ n. n - length entries) at
 
--- one more entry is to be shown if so many are left to show, or all
+-- whether one more entry is to be shown, by how many are left to show, or all
 abbrev pub is_due : Option ℕ → Bool
 is_due None = true
 is_due (Some n) = nat_lt 0 n
@@ -56,7 +56,7 @@ EndsReading way input left board WriteFault = ⊥
 EndsReading way input left board LinkFault = ⊥
 EndsReading way input left board Closed = ⊥
 
--- the count of the input's faults after reading that ended so: a fault raised it, and else it
+-- the count of the input's faults after reading with this end: a fault raised it, and else it
 -- stays; reading ends in no other way
 abbrev pub FaultMatchesWay : Way → ℕ → ℕ → RunEnd → Type 0
 FaultMatchesWay way before now Done = now ≡ before
@@ -85,8 +85,8 @@ ReadsToEnd LinkFault = ⊥
 ReadsToEnd Closed = ⊥
 ReadsToEnd BadHeader = ⊥
 
--- The picture of what the board trails was written and the run ends as given; or the output failed
--- after a prefix of it; or memory ran out before it.
+-- The picture of what the board trails was written and the run ends as given. Or the output failed
+-- after a prefix of it, or memory ran out before it.
 abbrev pub WritesShown : Option (List ℕ) → Option (List ℕ) → ℕ → ℕ → Trailing Board Draw → RunEnd
     → RunEnd → Type 0
 WritesShown old new before now board given end =

@@ -8,9 +8,9 @@ use Rattle.dp_entries.specs.Reading.{TookNoCause}
 use Rattle.dp_recording.specs.Recordings.{RecordingComesTo, RecordingTook}
 use Rattle.dp_io.specs.Limits.{stream_limit}
 
--- A way to read an input: what an input comes to; that what was taken of one of which these bytes
--- are left holds no cause to end, but for its last bytes, at most so many; which of the entries are
--- shown; and whether an input may lack its header.
+-- A way to read an input. First, what an input comes to. Then `took`: what was taken of one of
+-- which these bytes are left holds no cause to end. Its last bytes, at most a number, may hold one.
+-- Then which of the entries are shown, and whether an input may lack its header.
 pub record Way : Type 1 where
   pub comes : List ℕ → List Entry → RunEnd → Type 0
   pub took : ℕ → List ℕ → Option (List ℕ) → Type 0
@@ -31,7 +31,7 @@ replay_way = record {
   may_lack = ⊥;
 }
 
--- the first entries, so many, or all
+-- the first n entries, or all
 abbrev pub first_of : Option ℕ → List Entry → List Entry
 first_of None entries = entries
 first_of (Some n) entries = take n entries

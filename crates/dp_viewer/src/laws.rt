@@ -20,7 +20,7 @@ pub fn one_replay()
     one_reading::<Anywhere>();
 }
 
-/// The same for `play`.
+/// A recording comes to one list of entries and one end: the law for `play`.
 pub fn one_play()
     ensures entries { (input : List ℕ) (entries others : List Entry) (end other : RunEnd)
         → RecordingComesTo input entries end → RecordingComesTo input others other
@@ -39,7 +39,7 @@ pub fn each_replay_ends()
     each_input_ends::<Anywhere>();
 }
 
-/// The same for `play`.
+/// Each recording comes to some entries and an end: the law for `play`.
 pub fn each_play_ends()
     ensures { (input : List ℕ)
         → ¬ ((entries : List Entry) (end : RunEnd) → ¬ RecordingComesTo input entries end) }

@@ -17,13 +17,13 @@ use std::alloc::Global;
 use std::sync::ledger::Ledger;
 use std::thread::Threads;
 
-/// Reads frames to the input's end, and writes the P6 picture of what they show. Where the input
-/// ends inside a frame, the picture is that of the whole ones.
+/// Reads frames to the input's end, and writes the P6 picture of what they show. If the input ends
+/// inside a frame, the picture is that of the whole ones.
 ///
 /// # Errors
 ///
-/// It ends with `BadMessage` at the first frame that carries no message, with `Long` if the
-/// input has more than 1 GiB, with `ReadFault` and `WriteFault` if the input and the output
+/// It ends with `BadMessage` at the first frame that carries no message, and with `Long` if the
+/// input has more than 1 GiB. It ends with `ReadFault` and `WriteFault` if the input and the output
 /// failed, and with `Memory` if memory ran out.
 ///
 /// The rule: docs/protocol.md, "Commands".
@@ -52,9 +52,9 @@ pub fn run_replay<I: Source, O: Sink, D: Ledger, T: Ledger>(
     }
 }
 
-/// Reads a recording to its end, and writes the P6 picture of its first entries, so many, or of
-/// all. Those after them are read and judged all the same. Where the recording ends inside a frame,
-/// the picture is that of the whole ones. What is written is the same for each number of workers.
+/// Reads a recording to its end, and writes the P6 picture of its first `at` entries, or of all.
+/// Those after them are read and judged all the same. If the recording ends inside a frame, the
+/// picture is that of the whole ones. What is written is the same for each number of workers.
 ///
 /// # Errors
 ///
@@ -90,7 +90,7 @@ pub fn run_play<R: Threads + Sync, I: Source, O: Sink, G: Gate, D: Ledger, T: Le
     }
 }
 
-/// Whether the input is read to its end if reading it ends so.
+/// Whether the input is read to its end if reading it ends with this.
 fn reads_to_end(end: RunEnd) -> bool
     ensures yes { IsTrue result → ReadsToEnd end }
     ensures no { ReadsToEnd end → IsTrue result }

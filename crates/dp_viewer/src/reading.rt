@@ -108,8 +108,8 @@ fn show<D: Ledger, T: Ledger>(
     }
 }
 
-/// Reads a recording in the same way. Of its entries the first are shown, so many as are due, or
-/// all; those after them are read all the same.
+/// Reads a recording in the same way. Of its entries the first are shown, as many as are due, or
+/// all. Those after them are read all the same.
 pub(crate) fn read_recording<R: Threads + Sync, I: Source, G: Gate, D: Ledger, T: Ledger>(
     alloc: Global,
     input: &mut I,
@@ -138,7 +138,7 @@ pub(crate) fn read_recording<R: Threads + Sync, I: Source, G: Gate, D: Ledger, T
     }
 }
 
-/// Shows the next entry if it is one of the first so many, of which `due` are left, or of all.
+/// Shows the next entry if it is one of the first, of which `due` are left to show, or of all.
 #[inline(always)]
 pub(crate) fn show_due<D: Ledger, T: Ledger>(
     alloc: Global,

@@ -31,7 +31,7 @@ pub struct Playing<'a, G> {
     pub gate: &'a G,
 }
 
-/// A board that trails what a recording shows, and how many entries are left to show, or all. Where
+/// A board that trails what a recording shows, and how many entries are left to show, or all. If
 /// there is more than one worker, they paint what waits on layers on which much does.
 #[derive(Drop)]
 pub(crate) struct WorkersBoard<'a, R, G> {
@@ -43,7 +43,7 @@ pub(crate) struct WorkersBoard<'a, R, G> {
 }
 
 impl<'a, R: Threads + Sync, G: Gate> WorkersBoard<'a, R, G> {
-    /// A board of which so many entries are left to show, or all.
+    /// A board, with how many entries are left to show, or all.
     pub(crate) fn new(rt: &'a R, board: ShownBoard, playing: Playing<'a, G>) -> Self
         ensures board { result.board ≡ board }
         ensures due { result.due ≡ playing.entry.at }
@@ -61,7 +61,7 @@ impl<'a, R: Threads + Sync, G: Gate> WorkersBoard<'a, R, G> {
         }
     }
 
-    /// Shows the next entry if it is one of the first so many, or of all.
+    /// Shows the next entry if it is one of those that are left to show, or of all.
     #[inline(always)]
     pub(crate) fn show<D: Ledger, T: Ledger>(
         &mut self,
@@ -80,8 +80,8 @@ impl<'a, R: Threads + Sync, G: Gate> WorkersBoard<'a, R, G> {
         self.tend(alloc, tiles)
     }
 
-    /// If there are several workers, has them paint what waits on layers on which much does,
-    /// once for so many entries.
+    /// If there are several workers, has them paint what waits on layers on which much does, once
+    /// in a number of entries.
     #[inline(always)]
     fn tend<T: Ledger>(&mut self, alloc: Global, tiles: &mut Steps<T>) -> Result<(), AllocError>
         ensures board { self.new.board ≡ self.old.board }
@@ -109,8 +109,7 @@ impl<'a, R: Threads + Sync, G: Gate> WorkersBoard<'a, R, G> {
         settled
     }
 
-    /// Has the workers write the picture of what the board trails. Ends as given where it is
-    /// written.
+    /// Has the workers write the picture of what the board trails. Ends as given if it is written.
     pub(crate) fn write<O: Sink, D: Ledger, T: Ledger>(
         self,
         alloc: Global,

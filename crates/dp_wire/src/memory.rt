@@ -100,8 +100,8 @@ impl Wire for MemWire {
         ensures memory { result ≡ Err WireError.Memory
             → self.new.plan.faults ≡ self.old.plan.faults }
 
-        // It fails at the listed calls alone. At the others there is no link exactly if none is
-        // to come, so that it runs out of memory only for a link that it has.
+        // It fails at the listed calls alone. At the others there is no link exactly if none is to
+        // come. So it runs out of memory only for a link that it has.
         ensures failed { (result ≡ Err WireError.Failed) ↔ IsDue self.old.plan }
         ensures none { (result ≡ Ok None)
             ↔ ((¬ IsDue self.old.plan) × (self.old.links.to_come ≡ [])) }

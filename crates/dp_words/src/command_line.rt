@@ -13,7 +13,7 @@ pub enum CommandLine {
         addr: Word,
         name: Text,
     },
-    /// A server at `addr` with so many workers, from 1 to 64. Each worker ends after `conns`
+    /// A server at `addr` with `workers` workers, from 1 to 64. Each worker ends after `conns`
     /// links, at least 1, or goes on if there is no such number.
     Listen {
         addr: Word,
@@ -30,14 +30,14 @@ pub enum LocalCommand {
     Replay,
     /// A schedule on the input, its report on the output.
     World,
-    /// A recording on the input, a picture on the output: of its first `at` entries, or of all. So
-    /// many workers, from 1 to 64, paint it.
+    /// A recording on the input, a picture on the output: of its first `at` entries, or of all.
+    /// From 1 to 64 workers paint it.
     Play {
         at: Option<u32>,
         workers: u32,
     },
-    /// A session that is made from a number, with so many rounds, at most 100,000; its summary on
-    /// the output. So many workers, from 1 to 64, paint it.
+    /// A session that is made from a number, with at most 100,000 rounds; its summary on the
+    /// output. From 1 to 64 workers paint it.
     Drill {
         seed: u64,
         rounds: u32,

@@ -17,8 +17,8 @@ pub enum Devices {
     Dial {
         addr: Word,
     },
-    /// So many wires that hand out the links that are made to this address, and a store of rows in
-    /// this file, if there is one.
+    /// `workers` wires that hand out the links that are made to this address. Then a store of rows
+    /// in this file, if there is one.
     Listen {
         addr: Word,
         workers: u32,

@@ -54,7 +54,7 @@ pub fn some_command_lines()
     ensures no_name { ¬ IsCommandLine (codes "join" ∷ codes "localhost:7" ∷ []) }
 {}
 
-/// Where a form's last words may be several, `clap` finds all of them, in order.
+/// If a form's last words may be several, `clap` finds all of them, in order.
 pub fn several_words_are_found()
     ensures one { HasPlaces (codes "seek" ∷ codes "5" ∷ codes "7" ∷ []) (codes "7" ∷ []) }
     ensures several { HasPlaces (codes "seek" ∷ codes "5" ∷ codes "7" ∷ codes "0" ∷ codes "7" ∷ [])

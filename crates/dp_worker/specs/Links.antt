@@ -24,7 +24,7 @@ use Rattle.dp_link.specs.Saying.{AreSays, FaultMatchesUp}
 use Rattle.dp_link.specs.Sending.{Sends, FaultMatchesDown}
 use Rattle.dp_worker.specs.declared.report.LinkReport.{LinkReport}
 
--- What contracts see of a link: the bytes left to read and those that its peer took, where they are
+-- What contracts see of a link: the bytes left to read and those that its peer took, if they are
 -- known, and how often its source and its sink have failed.
 pub record LinkState : Type 0 where
   pub left : Option (List ℕ)

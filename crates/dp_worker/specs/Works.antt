@@ -13,7 +13,7 @@ use Rattle.dp_worker.specs.declared.worker.Worked.{Worked}
 use Rattle.dp_worker.specs.Links.{LinkState, IsLink, ran_out, has_store_fault}
 use Rattle.dp_worker.specs.Seats.{WorksOn}
 
--- so many links are served at most, by the number in the words
+-- how many links are served at most, by the number in the words
 abbrev pub most_links : Option ℕ → ℕ
 most_links conns = unwrap_or conns (2 ^ 32 - 1)
 
@@ -69,8 +69,8 @@ pub record HasServed {R T : Type 0} (see : R × T → LinkState) (start : Past) 
   pub store : worked.store ≡ has_store_fault (acts_of runs)
   pub wire : FaultMatchesWire worked.wire before now
 
--- The same of all its links: so many as it may serve, or all that were to come, unless its wire
--- failed or memory ran out.
+-- What a worker did on all its links. They are as many as it may serve, or all that were to come,
+-- unless its wire failed or memory ran out.
 pub record Works {R T : Type 0} (see : R × T → LinkState) (start : Past) (who most : ℕ)
     (v w : SeatView) (old new : Option (Links R T)) (before now : ℕ) (worked : Worked)
     : Type 0 where
@@ -82,7 +82,7 @@ pub record Works {R T : Type 0} (see : R × T → LinkState) (start : Past) (who
 
 -- ---- parts of it
 
--- it has served so many, and its wire hasn't failed
+-- it has served n links, and its wire hasn't failed
 pub record ServedSoFar {R T : Type 0} (see : R × T → LinkState) (start : Past) (who n : ℕ)
     (v w : SeatView) (old new : Option (Links R T)) (before now : ℕ) (worked : Worked)
     : Type 0 where

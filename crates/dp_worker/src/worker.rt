@@ -50,9 +50,9 @@ impl Worked {
     }
 }
 
-/// Serves the links of a wire, one after another, until so many were served, none is to come, the
-/// wire fails or there is no memory for a report. A link that was handed out is handed back and has
-/// its report, however it ended. 2^32 - 1 stands for no number.
+/// Serves the links of a wire, one after another, until `conns` links were served or none is to
+/// come. It also stops if the wire fails or there is no memory for a report. A link that was handed
+/// out is handed back and has its report, however it ended. 2^32 - 1 stands for no number.
 pub fn run_worker<W: Wire, K: Keeper + Send, G: Gate, R: Threads + Wait + Sync>(
     worker: &Worker<'_, R, K, G>,
     seat: &mut Seat<Session<K>>,

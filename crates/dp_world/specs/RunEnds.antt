@@ -25,7 +25,7 @@ use Rattle.dp_sim.specs.Report.{report}
 use Rattle.dp_world.specs.Schedule.{AskFor, IsStep, WorldComesTo}
 use Rattle.dp_script.specs.Limits.{lines_limit}
 
--- how a run ends if that of its lines ends so
+-- how a run ends if that of its lines ends with this
 abbrev pub run_end_of : ScriptEnd PictureEnd → RunEnd
 run_end_of script.Done = Done
 run_end_of (script.BadLine n) = BadLine n
@@ -46,8 +46,8 @@ lines_end_of ends.TooLong = Long
 abbrev pub DrawsFor : List Action → Counters → Type 0
 DrawsFor actions c = CountsFew reach (schedule_due actions) c.draws c.draws_now c.tiles c.tiles_now
 
--- the output grew by the report of an input whose bytes are known, which comes to this end, and no
--- more was drawn than that schedule may draw
+-- If the input's bytes are known, they come to this end. The output grew by their report, and no
+-- more was drawn than that schedule may draw.
 abbrev pub ReportsWhole : Option (List ℕ) → Option (List ℕ) → Option (List ℕ) → Counters → LinesEnd
     → Type 0
 ReportsWhole input old new counters end =
@@ -92,8 +92,8 @@ DrawsByDue bytes counters =
     ¬ ((done : List Line) (actions : List Action) (end : LinesEnd)
     → WorldComesTo bytes done actions end → ¬ DrawsFor actions counters)
 
--- What was taken of an input whose bytes are known holds no cause to end, but for the last bytes of
--- it, at most a piece of 4096.
+-- If the input's bytes are known, what was taken of it holds no cause to end. The last bytes of it,
+-- at most a piece of 4096, may hold one.
 abbrev pub TookNoCause : Option (List ℕ) → Option (List ℕ) → Type 0
 TookNoCause input left =
     IfSome input (λ bytes. TookWithin (HoldsNoCause IsStep lines_limit) 4096 bytes left)
@@ -113,7 +113,7 @@ pub record ReportsOf (bytes : List ℕ) (left old new : Option (List ℕ)) (coun
   pub text : Appends old new (report actions)
   pub counts : DrawsFor actions counters
 
--- What a run that ends so leaves of an input, on the output and on the counters.
+-- What a run with this end leaves of an input, on the output and on the counters.
 abbrev pub WorldLeaves : Option (List ℕ) → Option (List ℕ) → Option (List ℕ) → Option (List ℕ)
     → Counters → RunEnd → Type 0
 WorldLeaves input left old new counters Done =

@@ -40,8 +40,8 @@ pub fn every_schedule()
     further_step::<WorldRun>();
 }
 
-/// However a run ends, the output grew by a prefix of the report that the input is due, and no more
-/// was drawn than its schedule may draw.
+/// However a run ends, the output grew by a prefix of the report that the input is due. No more was
+/// drawn than its schedule may draw.
 pub fn reports_are_due()
     ensures report { (bytes : List ℕ) (left old now : Option (List ℕ)) (counters : Counters)
         (end : RunEnd)

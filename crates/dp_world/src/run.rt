@@ -22,9 +22,9 @@ const WORLD_LIMIT: usize = 1 << 26;
 ///
 /// # Errors
 ///
-/// It ends with `BadLine` at the first line that is no step, with `Long` if the input has more
-/// than 64 MiB, with `ReadFault` and `WriteFault` if the input and the output failed, and with
-/// `Memory` if memory ran out.
+/// It ends with `BadLine` at the first line that is no step, and with `Long` if the input has more
+/// than 64 MiB. It ends with `ReadFault` and `WriteFault` if the input and the output failed, and
+/// with `Memory` if memory ran out.
 ///
 /// The rule: docs/protocol.md, "The world".
 pub fn run_world<I: Source, O: Sink, D: Ledger, T: Ledger>(
@@ -57,7 +57,7 @@ pub fn run_world<I: Source, O: Sink, D: Ledger, T: Ledger>(
     ))
 }
 
-/// How the run ends if that of its lines ends so.
+/// How the run ends if that of its lines ends with this.
 fn run_end(end: ScriptEnd<PictureEnd>) -> RunEnd
     ensures { result ≡ run_end_of end }
 {

@@ -14,7 +14,7 @@ use dp_sim_laws::{forks_are_plain, no_fork_is_lost};
 use dp_world::lines_say_no_control;
 
 /// After lines in which no event was answered Ended, a client's fork is its sends without the first
-/// n, n the number of own answers that it has taken.
+/// n. Here n is the number of own answers that it has taken.
 pub fn forks_of_lines_are_plain()
     ensures { (lines : List Line) (actions : List Action) (number : ℕ)
         → AskUnended lines actions → HasPlainFork actions number }

@@ -23,9 +23,9 @@ const CLOSE_READS: u32 = 64;
 
 /// The source of a link: what the peer sends. A clause sees it as its number of faults.
 ///
-/// Only tested: it waits for the peer without limit, it ends if the peer has closed its half,
-/// and it ends once a write of the link has failed. A read that a signal interrupted is made again,
-/// and counts nothing; no test has such a signal.
+/// Only tested: it waits for the peer without limit. It ends if the peer has closed its half, and
+/// once a write of the link has failed. A read that a signal interrupted is made again, and counts
+/// nothing; no test has such a signal.
 #[derive(Drop)]
 pub struct TcpRx {
     pub(super) stream: TcpStream,
@@ -110,7 +110,7 @@ pub(super) fn link_of(stream: TcpStream) -> io::Result<(TcpRx, TcpTx)>
     link_within(stream, Duration::from_secs(WRITE_SECONDS))
 }
 
-/// The same, with the time that a write may wait.
+/// The two halves of a link, with the time that a write may wait.
 pub(super) fn link_within(stream: TcpStream, limit: Duration) -> io::Result<(TcpRx, TcpTx)>
     ensures rx { IfOk result (λ link. link.0 ≡ 0) }
     ensures tx { IfOk result (λ link. link.1 ≡ 0) }

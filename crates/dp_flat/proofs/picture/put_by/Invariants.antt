@@ -3,8 +3,8 @@ use Rattle.dp_flat.specs.Bands.{HasRows}
 use Rattle.dp_flat.specs.Jobs.{AreDrawnFrom, AreJobsOf}
 use Rattle.dp_flat.proofs.picture.put_by.Given as goal
 
--- the rows of the rows of tiles above were written, but for the piece, no fault was counted, and
--- the jobs from the slot on have those from here on
+-- The rows of the rows of tiles above were written, but for the piece, and no fault was counted.
+-- The jobs from the slot on have the rows of tiles from here on.
 abbrev pub invariant-loop-row : goal.invariant-loop-row
 invariant-loop-row g l =
     let board = g.V.BoardView.board l.board in record {

@@ -4,7 +4,7 @@ use Rattle.arrayvec.specs.ArrayVec.{array_vec_len}
 use Rattle.dp_flat.specs.declared.text.TheConstants.{PIXEL_BYTES}
 use Rattle.dp_flat.proofs.text.push_copies.Given as goal
 
--- so many copies as were counted are added
+-- as many copies as were counted are added
 abbrev pub invariant-loop : goal.invariant-loop
 invariant-loop g l = record {
   text : l.piece.items ≡ l.initial.piece.items ++ flat_map (λ copy. copy)

@@ -12,6 +12,6 @@ invariant-pages g l = record {
   puts : g.K.Keeper.put_faults l.keeper ≡ g.K.Keeper.put_faults l.fn.keeper;
 }
 
--- there is room for so many events more
+-- how many events more there is room for
 abbrev pub decreases-pages : goal.decreases-pages
 decreases-pages g l = event_limit - length l.tables.journal

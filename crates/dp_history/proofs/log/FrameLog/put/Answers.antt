@@ -6,7 +6,7 @@ use Rattle.dp_history.specs.Frames.{frames_of, ends_from}
 use Rattle.dp_history.proofs.FrameLemmas.{length-ends, frames-cut, ends-part}
 use Rattle.dp_history.proofs.log.FrameLog.put.Goals as goal
 
--- so many of the places from one on
+-- the `most` places from one on
 few_ends : (at most : ℕ) (entries : List Entry) → at + most ≤ length entries
     → length (take most (drop at (ends_from 0 entries))) ≡ most
 few_ends at most entries within =

@@ -2,7 +2,7 @@ use Rattle.dp_joining.specs.Steps.{seen}
 use Rattle.dp_joining.proofs.Taking.{Taking}
 use Rattle.dp_joining.proofs.joiner.Joiner.take.Given as goal
 
--- so many entries are taken
+-- as many entries are taken as were counted
 abbrev pub invariant-loop-taken : goal.invariant-loop-taken
 invariant-loop-taken g l =
     Taking

@@ -15,7 +15,7 @@ use Rattle.dp_paint.proofs.movement.Moved.lay_source.Goals.{
   else-has_row-via-then-has_row+else-start-end,
 }
 
--- a place so many after another one
+-- a place i after another one
 at_place : (x z : ℤ) (start i : ℕ) → z ≡ x +ℤ pos start → z +ℤ pos i ≡ x +ℤ pos (start + i)
 at_place x z start i is = omega (arith, ints, is)
 

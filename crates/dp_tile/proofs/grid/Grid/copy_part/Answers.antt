@@ -7,7 +7,7 @@ use Rattle.dp_tile.proofs.Areas.{length-part}
 use Rattle.dp_tile.proofs.Stretches.{copied_more, length-copied, length-part_of_grid}
 use Rattle.dp_tile.proofs.grid.Grid.copy_part.Goals as goal
 
--- so many of a list from one on
+-- the n places of a list from a on
 length-next : {X : Type 0} (a n : ℕ) (xs : List X) → a + n ≤ length xs
     → length (part a (a + n) xs) ≡ n
 length-next a n xs within = length-part a (a + n) xs (omega arith) within ∙ omega arith
