@@ -26,7 +26,7 @@ changed-take-suc f (y ∷ ys) (e ∷ es) zero x d h i = refl
 changed-take-suc f (y ∷ ys) (e ∷ es) (suc k) x d h i =
     ap (λ rest. f y e ∷ rest) (changed-take-suc f ys es k x d (omega arith) (omega arith))
 
--- the same of a row that is changed up to k, where e is written
+-- a row that is changed up to k is changed to one more if e is written there
 pub changed-more : {X : Type 0} (f : X → Channels → Channels) (xs : List X)
     (row now : List Channels) (k : ℕ) (x : X) (d e : Channels)
     → k < length xs → k < length row → now ≡ changed f (take k xs) row
@@ -50,7 +50,7 @@ changed-two f xs row now k n x y d b e c h i two before first second =
     (second ∙ ap (f (get_or xs (k + 1) y)) (sym kept)) in
     both ∙ ap (λ m. changed f (take m xs) row) (omega arith)
 
--- the same of a row in which both were written
+-- a row in which both were written is changed to two more
 pub changed-next : {X : Type 0} (f : X → Channels → Channels) (xs : List X) (y : X)
     (row now written : List Channels) (k n : ℕ)
     → k + 1 < length xs → k + 1 < length row → n ≡ k + 2 → now ≡ changed f (take k xs) row

@@ -63,7 +63,7 @@ joins_from-step depth xs i a table joins more join all inside is are small joine
     ∙ joins_from-push depth (take i xs) a (drop (i + 1) xs) table joins all are small
     (ap (λ d. joins ++ joins_from depth (take i xs) d) (sym left) ∙ so_far)
 
--- what a command joined is drawn where its group is
+-- what a command joined is drawn exactly if its group is
 is_join_drawn-join_in : {Op : Type 0} → (depth : ℕ) (all : List (UserAct Op)) (table : Table)
     (done : List (List ℕ)) (user : ℕ) (group : Option ℕ) → HasStrokes depth all table
     → HaveDone table.users done → user < 256 → is_join_drawn done (join_in user group)

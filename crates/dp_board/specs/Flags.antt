@@ -15,7 +15,7 @@ abbrev pub is_group_drawn : List ℕ → Option ℕ → Bool
 is_group_drawn done None = true
 is_group_drawn done (Some group) = is_among done group
 
--- a command is drawn where its group is group 0, or is done at the end of the whole history
+-- a command is drawn if its group is group 0, or is done at the end of the whole history
 abbrev pub is_drawn : {Op : Type 0} → ℕ → List (UserAct Op) → List (UserAct Op) → ℕ → Bool
 is_drawn depth all before user =
     is_group_drawn (strokes depth user all).groups.done (joined depth user before)

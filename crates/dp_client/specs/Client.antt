@@ -138,7 +138,7 @@ confirmed s = replay s.taken
 abbrev pub view : State → Board
 view s = draw_all (confirmed s) (filter_map command_of s.fork)
 
--- the same two on a board of any kind, from a blank one on
+-- the confirmed canvas and the view on a board of any kind, from a blank one on
 abbrev pub confirmed_on : {B : Type 0} → (B → Draw → B) → B → State → B
 confirmed_on draw blank s = replay_on draw blank s.taken
 

@@ -52,7 +52,7 @@ pub record Streams : Type 0 where
   pub written_now : ℕ
   pub counters : Counters
 
--- the same of an input and an output, by what is seen of them
+-- the streams of an input and an output, by what is seen of them
 abbrev pub streams : {I O : Type 0} → (I → Option (List ℕ)) → (I → ℕ) → (O → Option (List ℕ))
     → (O → ℕ) → I → I → O → O → Counters → Streams
 streams left read held written input input_now output output_now counters = record {
@@ -80,7 +80,7 @@ pub record Kept : Type 0 where
   pub shut : List ShutAt
   pub reports : List LinkReport
 
--- the same of its parts
+-- what a server leaves beside its wires, of its parts
 abbrev pub kept : List Event → List ShutAt → List LinkReport → Kept
 kept journal shut reports = record { journal = journal; shut = shut; reports = reports }
 
@@ -98,7 +98,7 @@ pub record Stores : Type 0 where
   pub reads : ℕ
   pub reads_now : ℕ
 
--- the same of a store, by what is seen of it
+-- what was seen of a store before and after
 abbrev pub stores : {K : Type 0} → (K → Option (List Row)) → (K → ℕ) → (K → ℕ) → K → K → Stores
 stores held puts reads keeper now = record {
   held = held keeper;
@@ -117,7 +117,7 @@ pub record Effects (W : Type 0) : Type 0 where
   pub store : Stores
   pub kept : Kept
 
--- the same of its parts
+-- what became of all of these, of its parts
 abbrev pub effects : {W : Type 0} → Streams → List W → List W → Stores → Kept → Effects W
 effects streams old new store kept =
     record { streams = streams; old = old; new = new; store = store; kept = kept }
@@ -148,7 +148,7 @@ pub record Wires (W R T : Type 0) : Type 0 where
   pub held : T → Option (List ℕ)
   pub write_faults : T → ℕ
 
--- the same of its parts
+-- what contracts see of a wire, of its parts
 abbrev pub wire_seen : {W R T : Type 0} → (W → Option (Links R T)) → (W → ℕ)
     → (R → Option (List ℕ)) → (R → ℕ) → (T → Option (List ℕ)) → (T → ℕ) → Wires W R T
 wire_seen links faults left read_faults held write_faults = record {
@@ -160,7 +160,7 @@ wire_seen links faults left read_faults held write_faults = record {
   write_faults = write_faults;
 }
 
--- the same as a server sees them
+-- a wire and its links as a server sees them
 abbrev pub served_wires : {W R T : Type 0} → Wires W R T → Seen W R T
 served_wires see = record {
   links = see.links;

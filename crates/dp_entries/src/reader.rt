@@ -145,7 +145,7 @@ impl<S: Standing> EntryReader<S> {
         ensures within { HoldsWithin self.new }
         ensures source { SameSource self.old self.new }
 
-        // If there is none, the input came to its end, or reading it ended with the error.
+        // If there is none, the input came to its end, or reading it ended with this error.
         ensures at_end { ¬ IsTrue self.old.ended → IfOk result (λ next.
             IfNone next (IsAtEnd (I.left input.new))) }
         ensures done { ¬ IsTrue self.old.ended → IfOk result (λ next. IfNone next

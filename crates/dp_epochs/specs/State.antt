@@ -292,7 +292,7 @@ abbrev pub commands_by : ℕ → Option Stream → Option (List Draw)
 commands_by conn None = None
 commands_by conn (Some stream) = if stream.owner == conn then Some stream.commands else None
 
--- the same, if the connection's user is operator
+-- the commands of the reset that a connection sends, if its user is operator
 abbrev pub reset_of : State → ℕ → Connection → Option (List Draw)
 reset_of s conn connection =
     if is_operator s.live connection.user then commands_by conn s.stream else None

@@ -11,7 +11,7 @@ use crate::event::Reply;
 /// copied.
 #[derive(Clone, Copy)]
 pub enum Effect {
-    /// It is answered so, and nothing else.
+    /// It is answered with this, and nothing else.
     Nothing(Reply),
     /// The connection of this number takes up the live epoch.
     TakesUp {

@@ -20,7 +20,8 @@ abbrev pub Finds : {X : Type 0} → (X → Type 0) → Option X → Type 0
 Finds Is (Some x) = Is x
 Finds {X = X} Is None = (x : X) → Is x → ⊥
 
--- the same, if memory may run out for the value, which is seen by view
+-- A value that is looked for, which is seen by view: it is found, there is none, or memory ran out
+-- for it.
 abbrev pub AnswersAs : {X Y : Type 0} → (X → Y) → (Y → Type 0) → Result X PayloadError → Type 0
 AnswersAs view Is (Ok x) = Is (view x)
 AnswersAs {Y = Y} view Is (Err Malformed) = (y : Y) → Is y → ⊥

@@ -137,7 +137,7 @@ pub(crate) fn hides(mode: Mode, color: Pixel) -> bool
     }
 }
 
-/// Whether each pixel stays as it is where the colour is laid on it, whatever it is faded by.
+/// Whether each pixel stays as it is if the colour is laid on it, whatever that is faded by.
 fn shows_nothing(mode: Mode, color: Pixel) -> bool
     ensures plain { IsTrue result → (under : Channels) → IsPixel under
         → blend mode color under ≡ under }

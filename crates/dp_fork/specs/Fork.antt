@@ -111,7 +111,7 @@ abbrev pub is_settled : {Op : Type 0} → Act Op → Change → Own → List (Ac
 is_settled act change own said =
     not (list_any is_draw (left_by own said)) || (not (is_rebuilt change) && is_calm act own said)
 
--- the same, whatever the act changes
+-- the fork needs no drawing, whatever the act changes
 abbrev pub is_quiet : {Op : Type 0} → Act Op → Own → List (Act Op) → Bool
 is_quiet act own said =
     not (list_any is_draw (left_by own said)) || (not (may_move act) && is_calm act own said)

@@ -68,7 +68,7 @@ module _ {E O M : Type 0} where
       IsActOf name event entry × (follows entry.outcome ≡ true)
       × AreActs follows name events entries
 
--- the same up to one with this outcome, after which none follows
+-- the entries are such acts up to one with this outcome, after which none follows
 pub record AreActsTo {E O M : Type 0} (follows : O → Bool) (name : List ℕ) (events : List E)
     (entries : List (Entry E O M)) (outcome : O) : Type 0 where
   pub earlier : List E

@@ -2,7 +2,7 @@
 use Rattle.std.specs.Prelude.{ℕ, Bool, true, false, ◌&&◌, ◌==◌, if◌then◌else◌, List, [], ◌∷◌}
 use Rattle.dp_hall.specs.declared.view.Entry.{Entry}
 
--- the same list of numbers
+-- whether two names are one list of numbers
 abbrev pub is_same_name : List ℕ → List ℕ → Bool
 is_same_name [] [] = true
 is_same_name [] (y ∷ ys) = false

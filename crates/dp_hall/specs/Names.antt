@@ -55,7 +55,7 @@ module _ {E O M : Type 0} where
   abbrev pub tag : View E O M → Tag E O M
   tag v = record { live = v.live; name = v.name; olds = v.olds; made = v.made; splits = v.splits }
 
-  -- the same of a tag
+  -- the names of a tag: its own, and those joined into it
   abbrev pub names_of : Tag E O M → List (List ℕ)
   names_of t = t.name ∷ old_names t.olds
 

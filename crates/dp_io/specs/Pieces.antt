@@ -16,7 +16,8 @@ pub record TookPieces (limit : ℕ) (source left : Option (List ℕ)) (earlier c
   pub within : length (earlier ++ counted) ≤ limit
   pub full : 0 < length cut → length (earlier ++ counted) ≡ limit
 
--- the same of a source whose bytes are known, with those that are left
+-- the parts of a source whose bytes are known: those that were taken as such pieces, and those that
+-- are left
 pub record Parts (bytes : List ℕ) (left : Option (List ℕ)) (earlier counted cut : List ℕ) : Type 0
   where
     pub untaken : List ℕ

@@ -24,7 +24,7 @@ pub record Welcomes (left : Option (List ℕ)) (faults : ℕ) (now : Source) (cl
     pub readable : IsReadable now
     pub kept : now.faults ≡ faults
 
--- the link gives no Welcome, and the client stops so
+-- the link gives no Welcome, and the client stops with this
 pub record NoWelcome (left : Option (List ℕ)) (before now : ℕ) (stop : JoinStop) : Type 0 where
   pub given : List Entry
   pub waits : (name : List ℕ) (actions : List JoinAction)
@@ -32,14 +32,14 @@ pub record NoWelcome (left : Option (List ℕ)) (before now : ℕ) (stop : JoinS
   pub reads : IfSome left (λ bytes. Shows bytes given stop)
   pub fault : FaultMatchesReading before now stop
 
--- what was written of the Hello if the client stops so: a prefix, or all
+-- what was written of the Hello if the client stops with this: a prefix, or all
 abbrev pub WroteHello : Option (List ℕ) → Option (List ℕ) → List ℕ → JoinStop → Type 0
 WroteHello old now hello WriteFault = GrowsByPrefix old now hello
 WroteHello old now hello LinkFault = GrowsByPrefix old now hello
 WroteHello old now hello Memory = GrowsByPrefix old now hello
 WroteHello old now hello (NoEntry why) = Appends old now hello
 
--- the counts of faults of the link's source and its sink if the client stops so
+-- the counts of faults of the link's source and its sink if the client stops with this
 abbrev pub FaultMatchesGreeting : ℕ → ℕ → ℕ → ℕ → JoinStop → Type 0
 FaultMatchesGreeting source source_now sink sink_now WriteFault = ⊥
 FaultMatchesGreeting source source_now sink sink_now LinkFault =
@@ -49,7 +49,7 @@ FaultMatchesGreeting source source_now sink sink_now Memory =
 FaultMatchesGreeting source source_now sink sink_now (NoEntry why) =
     (source_now ≡ source) × (sink_now ≡ sink)
 
--- the client stops so before it is welcomed
+-- the client stops with this before it is welcomed
 pub record GreetingFails (name : List ℕ) (left old now : Option (List ℕ))
     (source source_now sink sink_now : ℕ) (stop : JoinStop) : Type 0 where
   pub given : List Entry

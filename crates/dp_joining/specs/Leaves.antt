@@ -104,7 +104,7 @@ abbrev pub GrowsTowards : Traffic → JoinOutcome → Type 0
 GrowsTowards t outcome = GrowsByPrefix t.print_old t.print_now outcome.text
     × GrowsByPrefix t.sent_old t.sent_now outcome.written × DrawsFew t.counters outcome.due
 
--- the same of what the script and the link come to
+-- the same holds of each outcome to which the script and the link come
 abbrev pub BeginsDue : List ℕ → Traffic → List ℕ → List ℕ → Type 0
 BeginsDue name t input link =
     (outcome : JoinOutcome) → JoinComesTo name input link outcome → GrowsTowards t outcome

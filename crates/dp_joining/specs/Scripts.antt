@@ -42,7 +42,7 @@ pub record GoesTo (start now : Seen) (progress : Progress) : Type 0 where
   pub goes : progress ≡ Goes joining []
   pub stands : Stands start now joining
 
--- on the way the client stops so: if the link gives no entry more, a line asks for one
+-- on the way the client stops with this: if the link gives no entry more, a line asks for one
 pub record StopsAlong (start now : Seen) (progress : Progress) (stop : JoinStop) : Type 0 where
   pub stops : Stops start now (came_to progress) stop
   pub waits : IsNoEntry stop → progress ≡ Waits (came_to progress)

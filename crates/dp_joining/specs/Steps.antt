@@ -60,27 +60,27 @@ Shows bytes entries LinkFault = BeginsWith bytes entries
 Shows bytes entries Memory = BeginsWith bytes entries
 Shows bytes entries (NoEntry why) = EndsLink bytes entries why
 
--- what the link gave goes on by these entries, and then the client stops so
+-- what the link gave goes on by these entries, and then the client stops with this
 abbrev pub ReadsUpTo : Source → List Entry → JoinStop → Type 0
 ReadsUpTo old given stop =
     (bytes : List ℕ) (before : List Entry) → HasGiven old bytes before → is_closed before ≡ false
     → Shows bytes (before ++ given) stop
 
--- the count of the source's faults if reading stops so
+-- the count of the source's faults if reading stops with this
 abbrev pub FaultMatchesReading : ℕ → ℕ → JoinStop → Type 0
 FaultMatchesReading before now WriteFault = ⊥
 FaultMatchesReading before now LinkFault = Rose before now × (before ≤ now)
 FaultMatchesReading before now Memory = now ≡ before
 FaultMatchesReading before now (NoEntry why) = now ≡ before
 
--- the count of the sink's faults if writing to the link stops so
+-- the count of the sink's faults if writing to the link stops with this
 abbrev pub FaultMatchesWriting : ℕ → ℕ → JoinStop → Type 0
 FaultMatchesWriting before now WriteFault = ⊥
 FaultMatchesWriting before now LinkFault = Rose before now × (before ≤ now)
 FaultMatchesWriting before now Memory = now ≡ before
 FaultMatchesWriting before now (NoEntry why) = ⊥
 
--- the count of the output's faults if printing stops so
+-- the count of the output's faults if printing stops with this
 abbrev pub FaultMatchesPrinting : ℕ → ℕ → JoinStop → Type 0
 FaultMatchesPrinting before now WriteFault = Rose before now × (before ≤ now)
 FaultMatchesPrinting before now LinkFault = ⊥
@@ -159,7 +159,7 @@ pub record Stands (start now : Seen) (j : Joining) : Type 0 where
   pub faultless : IsFaultless start now
   pub counts : DrawsFew (counters_at start now) j.due
 
--- which counts of faults have changed if the client stops so
+-- which counts of faults have changed if the client stops with this
 abbrev pub FaultMatchesStop : Seen → Seen → JoinStop → Type 0
 FaultMatchesStop start now WriteFault =
     Rose start.print_faults now.print_faults × (start.print_faults ≤ now.print_faults)
@@ -176,8 +176,8 @@ pub record Began (start now : Seen) (text written : List ℕ) : Type 0 where
   pub printed : GrowsByPrefix start.printed now.printed text
   pub sent : GrowsByPrefix start.written now.written written
 
--- what was written if the client stops so on the way to this text and these bytes: prefixes, or
--- all
+-- what was written if the client stops with this on the way to this text and these bytes: prefixes,
+-- or all
 abbrev pub Wrote : Seen → Seen → List ℕ → List ℕ → JoinStop → Type 0
 Wrote start now text written WriteFault = Began start now text written
 Wrote start now text written LinkFault = Began start now text written
@@ -203,12 +203,12 @@ abbrev pub Moves : Seen → Seen → (Joining → Joining) → Type 0
 Moves old now change =
     (start : Seen) (j : Joining) → Stands start old j → Stands start now (change j)
 
--- on the way to this change it stops so
+-- on the way to this change it stops with this
 abbrev pub StopsOn : Seen → Seen → (Joining → Joining) → JoinStop → Type 0
 StopsOn old now change stop =
     (start : Seen) (j : Joining) → Stands start old j → Stops start now (change j) stop
 
--- the same if it reads no entry
+-- on the way to this change it stops with this, and not for want of an entry
 pub record Fails (old now : Seen) (change : Joining → Joining) (stop : JoinStop) : Type 0 where
   pub not_for_entry : ¬ IsNoEntry stop
   pub stops : StopsOn old now change stop

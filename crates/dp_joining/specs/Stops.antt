@@ -17,7 +17,7 @@ stop_of (read.BadMessage flaw at) = stop.NoEntry (cause.BadMessage at)
 stop_of read.Long = stop.NoEntry cause.Long
 stop_of read.Memory = stop.Memory
 
--- how a run ends that stops so
+-- how a run ends that stops with this
 abbrev pub end_of : JoinStop → RunEnd
 end_of stop.WriteFault = run.WriteFault
 end_of stop.LinkFault = run.LinkFault

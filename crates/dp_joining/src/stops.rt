@@ -57,7 +57,7 @@ impl From<AllocError> for JoinStop {
 }
 
 impl JoinStop {
-    /// How a run ends that stops so.
+    /// How a run ends that stops with this.
     pub fn run_end(self) -> RunEnd
         ensures { result ≡ end_of self }
     {

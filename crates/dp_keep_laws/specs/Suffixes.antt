@@ -21,7 +21,7 @@ SuffixesStandAlone Op =
     → drawn_commands depth (before ++ after)
     ≡ drawn_commands depth before ++ drawn_commands (depth_after depth before) after
 
--- the same on a board: the acts are replayed on what the history before them showed
+-- on a board, acts that stand alone are replayed on what the history before them showed
 abbrev pub SuffixesShowAlone : Type 0 → Type 0 → Type 0
 SuffixesShowAlone B Op =
     (draw : B → Op → B) (blank : B) (depth : ℕ) (before after : List (UserAct Op))

@@ -50,7 +50,7 @@ PutsAsListed old row (Err Memory) new = new ≡ put_counted old
 abbrev pub read_counted : Failing → Failing
 read_counted store = record store { reads = one_more store.reads }
 
--- A reading fails exactly where its number is listed.
+-- A reading fails exactly if its number is listed.
 abbrev pub ReadsAsListed : Failing → ℕ → ℕ → Result (List Row) KeepError → Failing → Type 0
 ReadsAsListed old from max (Ok page) new =
     ¬ Contains old.read_fails (one_more old.reads)

@@ -13,11 +13,11 @@ abbrev pub lifted_message : Msg → Msg
 lifted_message (Opaque kind body) = Opaque (lifted_kind kind) body
 lifted_message m = m
 
--- the same user's entry with that message
+-- the entry of that user with its message as it is read today
 abbrev pub lifted_entry : Entry → Entry
 lifted_entry entry = record { user = entry.user; msg = lifted_message entry.msg }
 
--- the same event with that message, if it says one
+-- the event with its message as it is read today, if it says one
 abbrev pub lifted_event : Event → Event
 lifted_event (Say conn m) = Say conn (lifted_message m)
 lifted_event e = e

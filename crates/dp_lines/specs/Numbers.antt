@@ -6,7 +6,7 @@ pub record IsNumber (word : List ℕ) (n : ℕ) : Type 0 where
   pub fits : n < 2 ^ 32
   pub text : word ≡ decimal n
 
--- the same of a number that fits 64 bits
+-- the word is the number as it is printed, which fits 64 bits
 pub record IsLongNumber (word : List ℕ) (n : ℕ) : Type 0 where
   pub fits : n < 2 ^ 64
   pub text : word ≡ decimal n

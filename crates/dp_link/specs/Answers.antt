@@ -22,7 +22,7 @@ goodbye reason = record { user = 0; msg = msg.Control (Disconnect reason) }
 abbrev pub opened_as : Greeting → Reply
 opened_as greeting = reply.Opened greeting.conn greeting.user greeting.epoch greeting.at
 
--- why the link of an Open that was answered so is ended, if it is
+-- why the link of an Open with this answer is ended, if it is
 abbrev pub reason_of : Reply → Option ℕ
 reason_of reply.Full = Some 1
 reason_of reply.NameRefused = Some 2
@@ -34,7 +34,7 @@ reason_of (reply.Filtered epoch at) = None
 reason_of reply.Noted = None
 reason_of reply.Ignored = None
 
--- an Open is answered so: the user has joined, or it was refused
+-- an Open has this answer: the user has joined, or it was refused
 abbrev pub OpensWith : Reply → Type 0
 OpensWith (reply.Opened conn user epoch at) = ⊤
 OpensWith reply.Full = ⊤

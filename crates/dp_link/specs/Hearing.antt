@@ -72,7 +72,7 @@ pub record HeardMore (left unread : Option (List ℕ)) (start : Stream) (entries
   pub says_are : says ≡ says_of conn (messages_of more)
   pub last : LeavesLast leaves (messages_of more)
 
--- the same, and hearing ended after them
+-- more messages were heard, these are Says of them, and hearing ended after them
 pub record HeardToEnd (left unread : Option (List ℕ)) (start : Stream) (entries : List Entry)
     (conn : ℕ) (says : List Event) (end : UpEnd) : Type 0 where
   pub more : List Entry

@@ -50,7 +50,7 @@ AreSaid conn [] (act ∷ acts) = ⊥
 AreSaid conn (m ∷ messages) [] = ⊥
 AreSaid conn (m ∷ messages) (act ∷ acts) = IsSaid conn m act × AreSaid conn messages acts
 
--- the same up to a last Say, of whose message and outcome P holds
+-- the acts are such Says up to a last one, of whose message and outcome P holds
 pub record AreSaidTo (P : Msg → ReplyOrMemory → Type 0) (conn : ℕ) (messages : List Msg)
     (acts : List LogEntry) : Type 0 where
   pub earlier : List Msg
@@ -175,7 +175,7 @@ pub record SaidSoFar (v w : SeatView) (left unread : Option (List ℕ)) (start :
   pub goes : Continues v says w
   pub said : AreSaid conn (messages_of entries) says
 
--- the same up to the end of the link
+-- what saying did up to the end of the link
 pub record SaidToEnd (v w : SeatView) (left unread : Option (List ℕ)) (stream : Stream) (conn : ℕ)
     (end : UpEnd) : Type 0 where
   pub read : List ℕ

@@ -79,7 +79,8 @@ WritesPage (Err down.Memory) held taken epoch at list cursor =
 WritesPage (Err down.Gone) held taken epoch at list cursor = ⊥
 WritesPage (Err down.NotGreeted) held taken epoch at list cursor = ⊥
 
--- the same count if a page was written, or was not
+-- the count of the sink's faults after a page: it stays if one was written, and else goes by the
+-- end
 abbrev pub FaultMatchesPage : {T : Type 0} → Result T DownEnd → ℕ → ℕ → Type 0
 FaultMatchesPage (Ok more) before now = now ≡ before
 FaultMatchesPage (Err end) before now = FaultMatchesDown end before now

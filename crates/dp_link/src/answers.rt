@@ -46,7 +46,7 @@ pub(crate) fn put_goodbye<S: Sink>(tx: &mut S, reason: u8) -> Result<(), Failed>
     put_all(tx, &frame)
 }
 
-/// The reason of the Disconnect that follows an Open that was answered so, if one does.
+/// The reason of the Disconnect that follows an Open with this answer, if one does.
 pub(crate) fn reason_of(reply: &Reply) -> Option<u8>
     ensures { result ≡ reason_of reply.now }
 {

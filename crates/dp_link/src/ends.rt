@@ -26,7 +26,7 @@ pub enum GreetEnd {
     BadMessage { at: u64 },
     /// Nothing was left to read before the first frame was whole.
     End,
-    /// The session answered so: NameRefused, Full, Ended or StoreFault.
+    /// The session answered with this: NameRefused, Full, Ended or StoreFault.
     Refused(Reply),
     /// Memory ran out.
     Memory,

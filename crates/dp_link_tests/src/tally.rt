@@ -15,7 +15,7 @@ pub const REFUSED: u64 = 1_000_000;
 /// The number of an act that raises the first flag of the gate, and goes on when the second is up.
 pub const GATED: u64 = 2_000_000;
 
-/// Two flags, 1 where they are up.
+/// Two flags, 1 if they are up.
 #[derive(Drop)]
 pub struct Gate {
     pub began: AtomicU64,

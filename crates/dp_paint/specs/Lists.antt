@@ -107,15 +107,15 @@ row_to row left right = record { left = left; right = right; top = row; bottom =
 abbrev pub AllCount : Lists → Type 0
 AllCount l = (col row : ℕ) → col < 64 → (list_at l col row).more ≡ []
 
--- the same operations wait on each tile
+-- the operations that wait on each tile stay
 abbrev pub HaveSame : Lists → Lists → Type 0
 HaveSame old new = (col row : ℕ) → col < 64 → listed_at new col row ≡ listed_at old col row
 
--- the same lists stand at each tile
+-- the list of each tile stays
 abbrev pub HaveSameLists : Lists → Lists → Type 0
 HaveSameLists old new = (col row : ℕ) → col < 64 → list_at new col row ≡ list_at old col row
 
--- the same lists stand outside an area
+-- the list of each tile outside an area stays
 abbrev pub StayOutside : CellArea → Lists → Lists → Type 0
 StayOutside area old new =
     (col row : ℕ) → col < 64 → (IsInside area col row → ⊥)

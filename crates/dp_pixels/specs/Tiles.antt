@@ -48,7 +48,7 @@ tile_put width height col row repeat content x y old =
     then option_map_or (λ p. replaced_by p old) (content_at content x y) old
     else old
 
--- the same, at a place of whole numbers
+-- the pixel after PutTile at a place of whole numbers
 abbrev pub tile_changed : ℕ → ℕ → ℕ → ℕ → ℕ → TileContent → ℤ → ℤ → Channels → Channels
 tile_changed width height col row repeat content x y old =
     tile_put width height col row repeat content (unsigned_abs x) (unsigned_abs y) old

@@ -39,7 +39,7 @@ reads-on profile input left now entries entry old new same going given h = (
   given h.3,
 )
 
--- reading ended with this by this call
+-- reading ended with this, by this call
 pub of-call : (now : Option (List ℕ)) (before after : ℕ) (end : ReadEnd DecodeError)
     → EndsWithInput now end → FaultMatchesReadEnd before after end
     → IsOfCall now before after (error_of end)

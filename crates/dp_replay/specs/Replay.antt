@@ -40,7 +40,7 @@ act_of_message sender (msg.Opaque kind body) = act.Other
 abbrev pub act_of : Entry → Act Draw
 act_of entry = act_of_message entry.user entry.msg
 
--- the same, with the user who sent it
+-- what an entry does to strokes, with the user who sent it
 abbrev pub user_act_of : Entry → UserAct Draw
 user_act_of entry = record { user = entry.user; act = act_of entry }
 

@@ -72,7 +72,7 @@ pub record KeepsReach (table : Table) (base kept : ℕ) (points : List ℕ) : Ty
   pub begins : base ≡ oldest_in table
   pub saved : AreSaved table.position table.window.points points
 
--- the same of its value
+-- a rollback's value keeps its reach
 abbrev pub IsInOrder : {B Op : Type 0} → Rolled B Op → Type 0
 IsInOrder r = KeepsReach r.table r.base (length r.kept) (points_of r.saves)
 

@@ -17,7 +17,7 @@ pub record Running (B : Type 0) : Type 0 where
 abbrev pub run_to : {B Op : Type 0} → (B → Op → B) → List (KeptAct Op) → ℕ → B → ℕ → B
 run_to draw kept start from position = fold draw from (drawn_among (take (position - start) kept))
 
--- the board of a savepoint then: as it was, or drawn anew where its Point comes later
+-- the board of a savepoint then: as it was, or drawn anew if its Point comes later
 abbrev pub saved_anew : {B Op : Type 0} → (B → Op → B) → List (KeptAct Op) → ℕ → B → ℕ → B → B
 saved_anew draw kept start from point old =
     if nat_lt start point then run_to draw kept start from point else old

@@ -112,7 +112,7 @@ ForkFollows is_board draw a own old fork now new =
     → IsForkOf is_board draw before fork → Became draw before now a.act (change_of depth acts a)
     → Answers own a.act fork.acts → IsForkOf is_board draw now new
 
--- a screen goes on where its boards do
+-- a screen goes on if its boards do
 pub goes_on : {B Op : Type 0} → ReplayGoesOn B Op → (is_board : B → Type 0) (draw : B → Op → B)
     (a : UserAct Op) (own : Own) (old new : Rolled B Op) (fork fork' : Forked B Op)
     → ((blank : B) (depth : ℕ) (acts : List (UserAct Op)) → StandsFor draw blank depth acts old

@@ -9,7 +9,7 @@ pub record Counters : Type 0 where
   pub tiles : ℕ
   pub tiles_now : ℕ
 
--- the same of their parts
+-- the counters before and after, of their parts
 abbrev pub counters : ℕ → ℕ → ℕ → ℕ → Counters
 counters draws draws_now tiles tiles_now =
     record { draws = draws; draws_now = draws_now; tiles = tiles; tiles_now = tiles_now }

@@ -58,7 +58,8 @@ module _ {W R T : Type 0} where
     pub faults : (see.faults part.now ≡ see.faults part.wire) ⊎ HasFailed see wire part
     pub ran_out : list_any run_ran_out part.runs ≡ true → memory ≡ true
 
-  -- the same, and the acts of its seat in the log are those of its links, in order and no others
+  -- its part fits, and the acts of its seat in the log are those of its links, in order and no
+  -- others
   abbrev pub IsPart : Seen W R T → Past → List LogEntry → ℕ → Bool → Bool → ℕ → Part W R T → Type 0
   IsPart see last log most memory wire who part =
       Fits see last most memory wire who part

@@ -112,7 +112,7 @@ open-names : (P : ℕ → Type 0) (act : LogEntry) (name : List ℕ) (outcome : 
     → IsAct act (Open name false) outcome → Names P act.event
 open-names P act name outcome is = subst (Names P) (sym is.event_is) tt
 
--- the connection of a greeting, after the Open that was answered so
+-- the connection of a greeting, after the Open with this answer
 greeted : (P : ℕ → Type 0) (act : LogEntry) (name : List ℕ) (greeting : Greeting)
     → IsAct act (Open name false) (Ok (opened_as greeting)) → OrGiven P act greeting.conn
 greeted P act name greeting is =

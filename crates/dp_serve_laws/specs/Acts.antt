@@ -22,7 +22,7 @@ is_of conn (Open name registered) other = false
 is_of conn (Say by m) outcome = by == conn
 is_of conn (Close by) outcome = by == conn
 
--- the same of an act
+-- an act is of the connection, by its event and its outcome
 abbrev pub is_about : ℕ → LogEntry → Bool
 is_about conn act = is_of conn act.event act.outcome
 

@@ -83,7 +83,7 @@ pub record HasFirst (known : Option (List Row)) (tables : SessionLog) : Type 0 w
   pub shut : tables.shut ≡ []
   pub quiet : tables.quiet ≡ []
 
--- the same of all rows
+-- nothing was refused, and the events are those of all the store's rows, if these are known
 pub record HasAll (known : Option (List Row)) (tables : SessionLog) : Type 0 where
   pub rows : IfSome known (λ rows. AreRowsOf rows tables.journal)
   pub shut : tables.shut ≡ []

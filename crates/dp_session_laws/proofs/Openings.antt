@@ -158,7 +158,7 @@ effect-opens s e (Joined id next) cause conn user epoch at is =
     }
 effect-opens s e effect cause conn user epoch at is = cc
 
--- the state after the event that was answered so
+-- the state after the event with this answer
 event-opens : EpochLaws → (s : State) (e : Event) (conn user epoch at : ℕ)
     → (acted s e).reply ≡ reply.Opened conn user epoch at → Begins (after_event s e) conn epoch
 event-opens laws s e conn user epoch at is =

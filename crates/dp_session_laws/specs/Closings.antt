@@ -36,7 +36,7 @@ shut_by_outcome n e (Ok Ended) = shut_with n [] e
 shut_by_outcome n e (Ok (StoreFault count)) = shut_with n [] e
 shut_by_outcome n e other = []
 
--- the same of an act
+-- what an act adds to the closings that were refused, while n events were kept
 abbrev pub shut_by_act : ℕ → LogEntry → List ShutAt
 shut_by_act n act = shut_by_outcome n act.event act.outcome
 

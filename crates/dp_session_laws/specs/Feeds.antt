@@ -63,7 +63,7 @@ EndsWith s (ending.Left place) last =
     ⊎ (place.epoch < epoch_of s)
 EndsWith s ending.Shut last = ⊤
 
--- the same of a connection that was given out
+-- how the last segment of a connection ends, if the connection was given out
 abbrev pub EndsWhere : State → Option Connection → Segment → Type 0
 EndsWhere s None last = ⊥
 EndsWhere s (Some connection) last = EndsWith s connection.ending last

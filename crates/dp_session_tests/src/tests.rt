@@ -90,7 +90,7 @@ fn serve<K: Keeper>(
     assert_eq!(rt; given, answer, "{deed:?}");
 }
 
-/// An Open that is answered so.
+/// An Open that has this answer.
 fn opened(conn: u32, user: u8, at: u32) -> Reply {
     Reply::Opened {
         conn,

@@ -24,7 +24,7 @@ abbrev pub IsSpelledSay : Instruction → Type 0
 IsSpelledSay (Say m) = HasSpelling m
 IsSpelledSay other = ⊤
 
--- the same of an action
+-- the message that an action says has a spelling, if it says one
 abbrev pub SaysSpelled : Action → Type 0
 SaysSpelled (Act client instruction) = IsSpelledSay instruction
 SaysSpelled other = ⊤

@@ -1,4 +1,4 @@
--- What a history replays to is a board, and has pixels where its messages have a spelling.
+-- What a history replays to is a board, and has pixels if its messages have a spelling.
 use Rattle.std.proofs.Common.{arith, ℕ, Bool, true, false, List, [], ◌∷◌, map}
 use Rattle.std.specs.Prelude.{All}
 use Rattle.std.specs.Option.{ForSome}

@@ -205,7 +205,7 @@ impl Grid {
     }
 
     /// Paints the tile at a column and a row. Other grids that shared it keep the old one. A tile
-    /// is made only if it isn't of one colour, or where its colour is none of the last ones.
+    /// is made only if it isn't of one colour, or if its colour is none of the last ones.
     ///
     /// # Errors
     ///

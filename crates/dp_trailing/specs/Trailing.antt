@@ -32,7 +32,7 @@ pub record HoldsReach (position oldest base kept : ℕ) : Type 0 where
   pub up_to_end : position ≡ base + kept
   pub enough : base ≤ oldest
 
--- the same of its value
+-- a trailing board's value holds its reach
 abbrev pub TrailsReach : {B Op : Type 0} → Trailing B Op → Type 0
 TrailsReach t = HoldsReach t.table.position (oldest_in t.table) t.base (length t.kept)
 

@@ -32,7 +32,7 @@ pub record LinkState : Type 0 where
   pub held : Option (List ℕ)
   pub write_faults : ℕ
 
--- the same of the pair of a source and a sink, by what is seen of each
+-- the state of a link that is a source and a sink, by what is seen of each
 abbrev pub link_seen : {R T : Type 0} → (R → Option (List ℕ)) → (R → ℕ) → (T → Option (List ℕ))
     → (T → ℕ) → R × T → LinkState
 link_seen left read_faults held write_faults link = record {
