@@ -1,6 +1,7 @@
 #!/usr/bin/env python3
 """bench/gate.py run LOG [CMD ..]   runs the gate (`rt ci --anew`, or CMD) and writes to LOG what each of
-                                 its processes took
+                                 its processes took. An older kit, as rattle-kit-13b, has no --anew and
+                                 proves all in each run: there CMD is `rt ci`
 bench/gate.py table LOG ..       prints the seconds of each crate, as a table for docs/
 bench/gate.py above CRATE LOG ..  prints what a change of this crate's proofs has proved again
 
