@@ -2,6 +2,8 @@
 """bench/house.py            looks over the repository, and prints what isn't in order, a line each
 bench/house.py --names    writes today's doubled names into bench/doubled_names.txt
 bench/house.py --lines    counts the lines of code, contracts, definitions and proofs
+bench/house.py --comments   prints the comments of sources that have a sentence of over 25 words or such
+                            words as "so many" for a number
 
 It looks at text alone and proves nothing, in a few seconds. It finds
 - a definition's name that stands in two crates which bench/doubled_names.txt doesn't list, and what
@@ -123,6 +125,36 @@ def look_at_sentences():
                 words = [it for it in sentence.split() if re.search(r"\w", it)]
                 if len(words) > 25:
                     yield f"{name}: {len(words)} words: {' '.join(words[:8])} .."
+
+
+# Words that say less than a name would: a number, an end, a thing.
+VAGUE = re.compile(r"\b[Ss]o many\b|\bend(?:s|ed) so\b|(?:^|[.:?!] )The same\b(?= (?:of|for|with|as|over|if)\b|,|\.)")
+
+
+def comments_of(path):
+    """Each paragraph of the comments of a source, with the line on which it begins."""
+    mark = "//[/!]?" if path.endswith(".rt") else "--"
+    begun, words = 0, []
+    for at, line in enumerate([*text_of(path).split("\n"), ""], 1):
+        told = re.match(rf"\s*{mark} ?(.*)$", line)
+        if words and (not told or not told[1] or told[1].startswith("- ")):
+            yield begun, " ".join(words)
+            words = []
+        if told and told[1]:
+            begun = begun if words else at
+            words += told[1].split()
+
+
+def look_at_comments():
+    count = lambda sentence: sum(bool(re.search(r"\w", it)) for it in sentence.split())
+    for path in files("crates/**/*.rt") + files("crates/**/*.antt"):
+        for at, text in comments_of(path):
+            long = next((it for it in re.split(SENTENCE_END, text) if count(it) > 25), None)
+            vague = VAGUE.search(text)
+            if long:
+                yield f"{short(path)}:{at}: {count(long)} words: {long[:60]} .."
+            elif vague:
+                yield f"{short(path)}:{at}: {vague[0].strip(': .')}: {text[:60]} .."
 
 
 @cache
@@ -270,10 +302,11 @@ def main(words):
             for name, crates in sorted(doubled().items()):
                 out.write(f"{name}  {' '.join(crates)}\n")
         return 0
-    if words:
+    if words and words != ["--comments"]:
         sys.exit(__doc__)
     found = 0
-    for look in (look_at_names, look_at_lemmas, look_at_sentences, look_at_documents, look_at_tables, look_at_lines, look_at_functions):
+    looks = (look_at_names, look_at_lemmas, look_at_sentences, look_at_documents, look_at_tables, look_at_lines, look_at_functions)
+    for look in (look_at_comments,) if words else looks:
         for said in look():
             print(said)
             found += 1
