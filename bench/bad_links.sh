@@ -1,6 +1,6 @@
 #!/usr/bin/env bash
 # Two painters beside 64 links that are silent, bad, cut, reset, slow, deaf or that only ping, over
-# real sockets: bench/bad_links.py. It fails where one isn't served, and where the pictures of what
+# real sockets: bench/bad_links.py. It fails if one isn't served, and if the pictures of what
 # both were sent differ from each other, or from that of a client that joins at the end.
 # DRAWPILE is the program, else bin/drawpile; PORT another port than 7747; PAINT_SECONDS how long
 # they paint.

@@ -2,7 +2,7 @@
 # Times `world` on clients that are shown often or have much unanswered: 2,000 and 4,000 points with a
 # fill and a picture after each, 100,000 fills anywhere that two clients say and take, a point with
 # 20,000 fills and ten undos and redos of it, and 10,000 fills of one client beside 10,000 of another
-# that never meet them, where none or 100 are unanswered all the time.
+# that never meet them, if none or 100 are unanswered all the time.
 . "$(dirname "$0")/common.sh"
 python3 - "$work" <<'PY'
 import random

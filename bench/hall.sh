@@ -121,7 +121,7 @@ impl Listener<Counter> for Deaf {
     }
 }
 
-/// The same acts, many in each turn.
+/// Acts as often, with many acts in each turn.
 fn act_in_turns<R: Wait>(rt: &R, hall: &Hall<Counter>, seat: &mut Seat<Counter>)
     requires { IsOf hall.now seat.old }
     ensures of { IsOf hall.now seat.new }
@@ -170,7 +170,7 @@ fn acts<R: Wait + Clock>(rt: &R, alloc: Global, in_turns: bool) -> io::Result<(D
     Ok((end?.duration_since(start?), counter.count))
 }
 
-/// The same of the machine alone.
+/// Times the acts of the machine alone.
 fn steps<R: Clock>(rt: &R) -> io::Result<(Duration, u64)> {
     let mut counter = Counter { count: 0 };
     let start = Instant::now(rt)?;

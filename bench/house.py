@@ -40,7 +40,7 @@ SENTENCES = (
     "README.md", "CONTRIBUTING.md", "CHANGELOG.md", "docs/promises.md", "docs/protocol.md",
     "docs/architecture.md", "docs/DECISIONS.md", "bench/RESULTS.md",
 )
-# A sentence ends with its mark, also where that stands in brackets or in bold.
+# A sentence ends with its mark, also if that stands in brackets or in bold.
 SENTENCE_END = r"(?:(?<=[.:?!])|(?<=[.:?!][)*\"])|(?<=[.:?!]\*\*))\s+"
 # Names that documents use for what isn't this repository's: of the toolchain, of Rust, of the shell.
 DOCUMENTS = ("README.md", "CONTRIBUTING.md", "docs/architecture.md", "docs/promises.md", "docs/DECISIONS.md")
@@ -100,7 +100,7 @@ def blocks_of(text):
 
 
 def look_at_lemmas():
-    """A lemma is cited where its name stands in other lines than its own, in which it may call itself."""
+    """A lemma is cited if its name stands in other lines than its own, in which it may call itself."""
     cited, homes = defaultdict(int), {}
     for path in files("crates/**/*.antt") + files("crates/**/*.rt"):
         for word in re.findall(WORD, text_of(path)):

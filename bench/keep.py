@@ -5,7 +5,7 @@ usage: bench/keep.py [PROGRAM] [SECONDS]     bin/drawpile and 30, if they aren't
 
 The first client sends `keep` each second. At the end all clients take what there is: their pictures
 are equal, and each stroke that a painter's own link was sent shows, unless a later one covers it. It
-prints what it did, and fails where that is not so.
+prints what it did, and fails if that is not so.
 """
 import os
 import selectors

@@ -45,7 +45,7 @@ def frames_of(data):
 
 
 class Session:
-    """The session that rows lead to, where nobody resets and all messages are permitted."""
+    """The session that rows lead to, if nobody resets and all messages are permitted."""
 
     def __init__(self):
         self.history = [frame(MARK, 0, bytes(8))]

@@ -1,5 +1,5 @@
 #!/usr/bin/env bash
-# Times `replay` where the picture takes most of it: 200 layers on 512 by 512, all of them half opaque
+# Times `replay` if the picture takes most of it: 200 layers on 512 by 512, all of them half opaque
 # and every fourth in groups nested three deep, and one opaque layer on 4096 by 4096. Half of the
 # first is the memory of 200 plain layers. Figures of an earlier day: bench/RESULTS.md.
 . "$(dirname "$0")/common.sh"

@@ -2,7 +2,7 @@
 """bench/reading.py            writes docs/reading.md: the definitions that the main theorem needs
 bench/reading.py --check    says whether the page is the one that it would write
 
-A definition is needed where a clause of the theorem names it, or another one that is needed. Files
+A definition is needed if a clause of the theorem names it, or another one that is needed. Files
 come in an order in which each stands after those that it uses."""
 import glob
 import os

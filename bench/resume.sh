@@ -45,7 +45,7 @@ fn rows(rt: &impl Abort, alloc: Global, count: u64) -> Rows {
     rows
 }
 
-/// Acts so many events on a session.
+/// Acts this number of events on a session.
 fn act(rt: &impl Abort, alloc: Global, count: u64) {
     let keeper = MemKeeper::new(Rows::new(alloc), Vec::new(alloc), Vec::new(alloc));
     let mut session = Session::new(alloc, keeper).expect(rt, "memory");
@@ -56,7 +56,7 @@ fn act(rt: &impl Abort, alloc: Global, count: u64) {
     }
 }
 
-/// Resumes a session from so many rows.
+/// Resumes a session from this number of rows.
 fn resume(rt: &impl Abort, alloc: Global, count: u64) {
     let keeper = MemKeeper::new(rows(rt, alloc, count), Vec::new(alloc), Vec::new(alloc));
     assert!(rt; Session::resume(alloc, keeper).is_ok());

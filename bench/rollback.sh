@@ -119,7 +119,7 @@ fn draw_all<D: Ledger, T: Ledger>(
     Ok(())
 }
 
-/// Microseconds of 1,000 shares of a canvas of so many layers, each of which has a fill.
+/// Microseconds of 1,000 shares of a canvas of this number of layers, each of which has a fill.
 fn share_all<R: Clock, D: Ledger, T: Ledger>(
     rt: &R,
     alloc: Global,

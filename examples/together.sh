@@ -1,6 +1,6 @@
 #!/usr/bin/env bash
 # A server and two clients that paint together over the loopback. It prints the picture that both
-# have, and fails where theirs differ. PORT chooses another port than 7707.
+# have, and fails if theirs differ. PORT chooses another port than 7707.
 set -eu
 cd "$(dirname "$0")/.."
 addr="127.0.0.1:${PORT:-7707}"
