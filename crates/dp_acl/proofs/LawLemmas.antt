@@ -106,7 +106,7 @@ look history user layer = record {
   rule = rule_of history layer;
 }
 
--- the same after one more entry
+-- what is looked up of a history, after one more entry
 abbrev pub look_after : ℕ → ℕ → Entry → Look → Look
 look_after user layer e l = record {
   joined = is_join_of user e || l.joined;
@@ -158,7 +158,7 @@ module _ (user layer : ℕ) where
 
 -- ---- what is permitted in them
 
--- the same but for the rule of the layer
+-- what is looked up, without the rule of the layer
 abbrev pub but_rule : Look → Look
 but_rule l = record l { rule = None }
 

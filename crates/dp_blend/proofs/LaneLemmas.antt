@@ -42,7 +42,7 @@ product_is v f h =
           rw (e.0, twice, doubled) (omega arith)
     ]
 
--- the same in each lane
+-- each lane is the product
 pub products_is : (v f : List ℕ) → Each1 (λ x. x ≤ 32768) f
     → sel_l (map (λ x. x == 32768) f) v (zip2 (λ a b. a * b / 65536) v
     (zip2 (λ a b. (a + b) % 65536) f f)) ≡ zip2 mul v f
@@ -61,7 +61,7 @@ lesser_is v f h =
     let doubled : v * (f + f) ≡ v * f + v * f = mul-add v f f in
     rw (twice, doubled) (omega arith)
 
--- the same in each lane
+-- each lane is the product, if all factors are below one
 pub lessers_are : (v f : List ℕ) → Each1 (λ x. x < 32768) f
     → zip2 (λ a b. a * b / 65536) v (zip2 (λ a b. (a + b) % 65536) f f) ≡ zip2 mul v f
 lessers_are [] [] h = refl

@@ -103,7 +103,7 @@ oldest-rises position act w =
     (All-window_after (λ p. least ≤ p) position act w (fold_min-all position w.points)
     (fold_min_le position w.points))
 
--- the same, by the window after the act
+-- the oldest Point in reach rises, by the window after the act
 pub oldest-rises_to : {Op : Type 0} → (position : ℕ) (act : Act Op) (w later : Window)
     → later ≡ window_after position act w
     → fold min position w.points ≤ fold min (position + 1) later.points

@@ -54,7 +54,7 @@ module _ {W R T : Type 0} (see : Wires W R T) (addr name : List ℕ) (s : Stream
   as-long old new ending (inl h) = ap length h.2.stays.wires
   as-long old new ending (inr h) = ap length h.2.after ∙ sym (ap length h.2.before)
 
-  -- the same of the vector as of the slice
+  -- what holds of the slice holds of the vector
   pub in-vector : (old mid new : List W) (n : ℕ) (ending : Ending) → mid ≡ old → n ≡ length old
       → EndsLink mid new ending → EndsLink old (sliced old new n) ending
   in-vector old mid new n ending same long h =

@@ -78,7 +78,7 @@ band_more board row col size color colors bytes part inside fits long before her
     ∙ ap wanted (sym same))
     (cases_lt c col)
 
--- the same row of tiles
+-- a row of tiles by equal numbers and lists
 pub band_same : (board : Board) (row now : ℕ) (was colors : List (Option (List ℕ)))
     (before bytes : List (List ℕ))
     → IsBand board row was before → row ≡ now → colors ≡ was → bytes ≡ before

@@ -136,7 +136,7 @@ composed_enough board depth parent tile rows above first n k start now enough so
 
 -- ---- boards without groups
 
--- the same for a row more, seen in the parent or not
+-- both depths give one colour for a row more, seen in the parent or not
 flat_row : (board : Board) (m n parent : ℕ) (row : LayerRow) (rows : List LayerRow) (x y : ℕ)
     (start : Channels) (is_seen : Bool)
     → laid_on board m x y start row ≡ laid_on board n x y start row

@@ -40,7 +40,7 @@ halts_alone old now action stop ready fails = record {
   stops = fails.stops;
 }
 
--- the same reader and the same source
+-- equal readers and equal sources make equal states
 pub source_same : {R : Type 0} (left : R → Option (List ℕ)) (faults : R → ℕ) (r s : Reader)
     (x y : R) → s ≡ r → y ≡ x → source_at left faults s y ≡ source_at left faults r x
 source_same {R} left faults r s x y readers sources =

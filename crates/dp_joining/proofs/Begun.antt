@@ -297,7 +297,7 @@ joined_on name actions more (e ∷ es) ds first =
     (came_to (from name (actions ++ more) xs (greeted name e.msg)))) (sym l.whole)
     (greeted_on name actions more (takeable es) l.more (greeted name e.msg)))
 
--- the same if the actions are the first of others
+-- what is come to goes on if the actions are the first of others
 joined_within : (name : List ℕ) (actions others : List JoinAction) (es ds : List Entry)
     (late : Progress) → IsFirstOf actions others → IsFirstOf es ds → joined name others ds ≡ late
     → GoesOn (came_to (joined name actions es)) (came_to late)

@@ -75,7 +75,7 @@ asked_first laws (line ∷ lines) more (a ∷ actions) (b ∷ others) (here, ask
     subst (λ (z : JoinAction). IsFirstOf (z ∷ actions) (b ∷ others)) (sym same)
     (first_more b actions others (asked_first laws lines more actions others asked asks))
 
--- the same of lines that are the first of others
+-- lines that are the first of others ask for the first of their actions
 pub asked_alike : AllLaws → (lines others : List Line) (actions more : List JoinAction)
     → IsFirstOf lines others → AllAsk lines actions → AllAsk others more → IsFirstOf actions more
 asked_alike laws lines others actions more first asked asks =

@@ -68,7 +68,7 @@ welcome_stands name left faults first start welcomes chats same print wrote writ
       still = welcomes.still;
     }
 
--- the same welcome
+-- a welcome by equal sources and clients
 pub welcomes_as : (left : Option (List ℕ)) (faults : ℕ) (s t : Source) (c d : State) → t ≡ s
     → d ≡ c → Welcomes left faults s c → Welcomes left faults t d
 welcomes_as left faults s t c d sources clients welcomes =

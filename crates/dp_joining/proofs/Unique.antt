@@ -96,7 +96,7 @@ joined_waits name actions more [] waiting waits = waits
 joined_waits name actions more (first ∷ rest) waiting waits =
     waits_from name actions more rest (greeted name first.msg) waiting waits
 
--- ---- the same lines over more entries
+-- ---- lines over more entries
 
 -- if all lines are done, they are done in the same way
 goes_from : (name : List ℕ) (actions : List JoinAction) (rest more : List Entry)

@@ -9,7 +9,7 @@ pub option_both : {T U : Type 0} (f : T → U) (o : Option T) (d : U) (P : U →
 option_both f None d P at_some at_none = at_none
 option_both f (Some x) d P at_some at_none = at_some x refl
 
--- the same, if it counts that there is no value
+-- what may come of an option, if it counts that there is no value
 pub option_either : {T U : Type 0} (f : T → U) (o : Option T) (d : U) (P : U → Type 0)
     → ((x : T) → o ≡ Some x → P (f x)) → (o ≡ None → P d) → P (option_map_or f o d)
 option_either f None d P at_some at_none = at_none refl

@@ -50,7 +50,7 @@ refused is form none m s =
     let f = form.of m (sym is ∙ s.kind) s.spelled in
     none f.0 (record { bytes_are = s.payload ∙ f.2; is_valid = f.3 })
 
--- the same if memory may have run out
+-- no message has the payload, if memory may have run out
 pub fails : {k kind : ℕ} {X : Type 0} {spelling : X → List ℕ} {valid : X → Type 0}
     {parts : IsWhole spelling valid} {make : X → Draw} (bytes : List ℕ)
     → k ≡ kind → Form kind parts make → ((x : X) → valid x → SpellsDraw kind (spelling x) (make x))

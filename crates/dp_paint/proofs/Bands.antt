@@ -80,7 +80,7 @@ module _ (band : ℕ) (before after : Lists)
       })))
       (cases_lt row (band * 8))
 
-  -- the same waits below it
+  -- what waits below it stays
   pub band_rest : (initial : Lists) → ((col row : ℕ) → col < 64 → band * 8 ≤ row
       → listed_at before col row ≡ listed_at initial col row)
       → (col row : ℕ) → col < 64 → (band + 1) * 8 ≤ row

@@ -225,7 +225,7 @@ module _ (dab : PlacedDab) (size : dab.size < 256) (col row i j : ℕ) (in_x : i
 
 -- ---- what was added
 
--- the same change by other words
+-- what was added, by an equal change
 pub adds_same : (among : OnTile → Type 0) (area : CellArea) (f g : ℤ → ℤ → Channels → Channels)
     (old new : Lists) → ((x y : ℤ) (p : Channels) → f x y p ≡ g x y p)
     → IsChangedOn area (AddsMore among f) old new → IsChangedOn area (AddsMore among g) old new

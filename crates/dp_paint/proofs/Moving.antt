@@ -56,7 +56,7 @@ module _ (pixel : ℤ → ℤ → Channels) (area : CellArea) (old new : TileGri
       (painted.cells col row in_cols in_rows ∙ cond-false (is_in_cells area col row)
       (tile_from pixel col row) (cell_at old col row) outside)
 
--- the same areas, painted with the same pixels
+-- the areas are painted with these pixels by equal numbers
 pub same_painted : (from to : CellArea) (a b : Rect) (right_a right_b down_a down_b : ℤ)
     (s t : TileGrid) (w h : ℕ) (old new : TileGrid) → a ≡ b → right_a ≡ right_b → down_a ≡ down_b
     → s ≡ t → ArePainted from to (moved_part a right_a down_a (shown w h s)) old new

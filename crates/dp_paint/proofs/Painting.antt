@@ -69,7 +69,7 @@ module _ (width height : ℕ) (op : Draw) (is : IsPainting op) (law : StaysOutsi
       (rw (lt-ltb x width in_x, lt-ltb y height in_y)
       (pixel_at-canvas_of width height before x y in_x in_y))))
 
-  -- the same, by whether the cell of a place is in an area that has the foot
+  -- what is painted, by whether the cell of a place is in an area that has the foot
   pub by_cells : (area : CellArea) (before after : ℕ → ℕ → Channels)
       → ((x y : ℕ) → x < width → y < height → is_in_foot (foot op) (pos x) (pos y) ≡ true
       → is_in_cells area (x / 64) (y / 64) ≡ true)

@@ -207,7 +207,7 @@ counts_due_first {B} {Op} is_board draw weight apart a own r f s draws draws' ti
     (due_on_fork apart a.act (change_of depth acts a) own f.acts) draws draws' tiles tiles'
     (few blank depth acts (with_room of.stands)))
 
--- the same, if both were
+-- what is drawn counts as is due on both boards, if both were drawn on
 pub counts_due_both : {B Op : Type 0} (is_board : B → Type 0) (draw : B → Op → B)
     (weight : Op → ℕ) (apart : Op → Op → Bool) (a : UserAct Op) (own : Own) (change : Change)
     (r : Rolled B Op) (f : Forked B Op) (s : Screened B Op)

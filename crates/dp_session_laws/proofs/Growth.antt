@@ -310,7 +310,7 @@ goes-quieted old (event.Say conn m) before = goes-same old before
 goes-quieted old (event.Close conn) before =
     record { grows = grows-same (state_of old); before = before }
 
--- the same after a fault, which leaves the events and the closings
+-- it goes on after a fault, which leaves the events and the closings
 goes-broken : (old mid new : Past) → new.journal ≡ mid.journal → new.shut ≡ mid.shut
     → Goes old mid → Goes old new
 goes-broken old mid new journal shut goes = record {

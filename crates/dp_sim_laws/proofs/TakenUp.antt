@@ -371,7 +371,7 @@ module _ (laws : Leading) (moves : InstructionsAreMoves)
             (go v (so_far ++ command ∷ []) left q behind world' there still (now ∙ after_is) owned
             others)
 
-    -- the same, if the reset stands on the uplink after other messages, with its begin
+    -- what comes of a reset that stands on the uplink after other messages, with its begin
     abbrev SendsAfter : Msg → List Action → Type 0
     SendsAfter begin actions =
         (w : World) (commands : List Draw) (p : Participant) (ahead behind : List Msg) → IsWorld w

@@ -49,7 +49,7 @@ sum_same f g a (suc n) same =
     left ∙ ap (λ k. k + sum_by f (range_with_len (a + 1) n)) first ∙ ap (λ k. g a + k) rest
     ∙ sym right
 
--- the same up to a number, by the number after it
+-- a sum up to a number, by the number after it
 next_sum : (f : ℕ → ℕ) (from to : ℕ) → from ≤ to
     → sum_by f (range_with_len from (to + 1 - from))
     ≡ sum_by f (range_with_len from (to - from)) + f to
@@ -243,7 +243,7 @@ module _ (painted : Painted) (area : CellArea) (old : TileGrid) where
         (other_row col k (λ same. absurd (omega (arith, same, to, order)))
         (omega (arith, below, across, wide))))))
 
--- ---- the same cells
+-- ---- equal cells
 
 pub shown_same : (area : CellArea) (g other : TileGrid)
     → ((col row : ℕ) → is_in_cells area col row ≡ true → cell_at g col row ≡ cell_at other col row)

@@ -2,7 +2,7 @@ use Rattle.std.proofs.Common.{◌≡◌, length}
 use Rattle.dp_paint.specs.Lists.{HaveSameLists}
 use Rattle.dp_paint.proofs.lists.TileLists.grow.Given as goal
 
--- the same lists stand at each tile
+-- the list of each tile stays
 abbrev pub invariant-loop-made : goal.invariant-loop-made
 invariant-loop-made l =
     record {
