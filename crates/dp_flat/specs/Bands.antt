@@ -34,8 +34,8 @@ abbrev pub chunk_pixels : Option (List ℕ) → List (List ℕ) → List (List �
 chunk_pixels (Some color) pixels = replicate (length pixels) color
 chunk_pixels None pixels = pixels
 
--- The colours of the tiles of a row of tiles are those of the picture, as far as it goes. Of a tile
--- without a colour its bytes are, tile after tile.
+-- The colours of the tiles of a row of tiles are those of the picture, as far as it goes. If a tile
+-- has no colour here, its bytes are those of the picture, tile after tile.
 abbrev pub IsBand : Board → ℕ → List (Option (List ℕ)) → List (List ℕ) → Type 0
 IsBand board row colors bytes =
     (col k : ℕ) → k < 4096 → tile_x col k < board.width → tile_y row k < board.height

@@ -26,9 +26,9 @@ pub data Queued : Type 0 where
   Resetting : Bool → Queued
   Parting : Queued
 
--- A move of a client. It may be none. Messages join its uplink. Or the session takes the first of
--- them, and the others are left. Or the client takes the next entry. Or its connection is closed,
--- after the session took a Disconnect of it or without one.
+-- A move of a client. It may be none. Or messages join its uplink. Or the session takes the first
+-- of them, and the others are left. Or the client takes the next entry. Or its connection is
+-- closed, after the session took a Disconnect of it or without one.
 pub data Move : Type 0 where
   Rests : Move
   Queues : Queued → Move
