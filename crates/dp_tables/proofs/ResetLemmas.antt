@@ -1,10 +1,7 @@
 -- What a reset that is being sent may have, and how the next epoch opens.
 use Rattle.std.proofs.Common.{◌≡◌, ℕ, zero, suc, ◌+◌, ◌-◌, ◌<◌, ◌≤◌, ◌&&◌, Bool, true, false, cond}
-use Rattle.std.proofs.Common.{drop, All}
-use Rattle.std.proofs.Common.{[]}
-use Rattle.std.proofs.Common.{nat_lt, nat_le, is_some, List, ◌∷◌, ◌++◌, length, map}
-use Rattle.std.proofs.Common.{Option, None, Some}
-use Rattle.std.proofs.Common.{refl, sym, ap, subst, ◌∙◌, ⊎_elim, arith}
+use Rattle.std.proofs.Common.{drop, All, [], nat_lt, nat_le, is_some, List, ◌∷◌, ◌++◌, length, map}
+use Rattle.std.proofs.Common.{Option, None, Some, refl, sym, ap, subst, ◌∙◌, ⊎_elim, arith}
 use Rattle.std.proofs.Common.{length-append}
 use Rattle.std.specs.List.{filter, filter_map, cons_option, range_with_len, sum_by}
 use Rattle.std.specs.Option.{option_map}
@@ -14,15 +11,14 @@ use Rattle.std.proofs.Math.Seq.{drop-length}
 use Rattle.std.proofs.lemmas.List.{length-map, drop-map, length-drop}
 use Rattle.std.proofs.lemmas.List.Elements.{All-drop}
 use Rattle.dp_msg_draw.specs.declared.draw.Draw.{Draw}
-use Rattle.dp_messages.specs.declared.message.Entry.{Entry}
 use Rattle.dp_msg_meta.specs.declared.message.Meta.{Meta}
 use Rattle.dp_msg_meta.specs.declared.message.Meta.TheVariants.{ResetMark}
+use Rattle.dp_messages.specs.declared.message.Entry.{Entry}
 use Rattle.dp_acl.specs.Carried.{carried}
-use Rattle.dp_acl.specs.Opening.{carried_entries, opening, opening_limit}
-use Rattle.dp_acl.specs.Opening.{command_entry, goes_over, last_join, part_limit, server_entry}
-use Rattle.dp_epochs.specs.State.{State, Stream, epoch_of, is_present, present_users}
-use Rattle.dp_epochs.specs.State.{user_ids, fits_reset, part_bytes, reset_byte_limit}
-use Rattle.dp_epochs.specs.State.{sent_commands, kept_by}
+use Rattle.dp_acl.specs.Opening.{carried_entries, opening, opening_limit, command_entry, goes_over}
+use Rattle.dp_acl.specs.Opening.{last_join, part_limit, server_entry}
+use Rattle.dp_epochs.specs.State.{State, Stream, epoch_of, is_present, present_users, user_ids}
+use Rattle.dp_epochs.specs.State.{fits_reset, part_bytes, reset_byte_limit, sent_commands, kept_by}
 use Rattle.dp_epochs.specs.declared.event.Event.{Event}
 use Rattle.dp_epochs.specs.declared.effect.Effect.{Effect}
 use Rattle.dp_epochs.specs.declared.effect.Effect.TheVariants.{Reopened}
@@ -30,17 +26,19 @@ use Rattle.dp_epochs.specs.Effects.{entries_of, live_after}
 use Rattle.dp_epochs.proofs.OpeningLemmas.{kept-few, going-few}
 use Rattle.dp_history.specs.declared.frames.HistoryFrames.{HistoryFrames}
 use Rattle.dp_history.specs.Made.{AreMadeOf, going_over}
-use Rattle.dp_history.proofs.MadeLemmas.{made-on}
-use Rattle.dp_tables.specs.declared.ready.Supply.{Supply}
-use Rattle.dp_tables.specs.declared.ready.Supply.TheVariants.{Entries, Opens}
-use Rattle.dp_tables.specs.Ready.{AreFramesWith, IsSupply}
 use Rattle.dp_history.specs.declared.item.HistoryItem.{HistoryItem}
 use Rattle.dp_history.specs.Items.{commands_in, entry_in, IsIn}
 use Rattle.dp_history.specs.Users.{mark}
-use Rattle.dp_tables.specs.Tables.{Seen, AreOf, start_of, stream_in}
+use Rattle.dp_history.proofs.MadeLemmas.{made-on}
 use Rattle.dp_history.proofs.Ranges.{filter-range_same}
-use Rattle.dp_tables.proofs.TableLemmas.{present-marked, sent-in, length-commands, live-length}
-use Rattle.dp_tables.proofs.TableLemmas.{live-more}
+use Rattle.dp_commit.specs.declared.supply.Supply.{Supply}
+use Rattle.dp_commit.specs.declared.supply.Supply.TheVariants.{Entries, Opens}
+use Rattle.dp_commit.specs.Placed.{AreFramesWith, IsSupply}
+use Rattle.dp_commit.specs.Sending.{start_of, stream_in}
+use Rattle.dp_commit.proofs.SendingLemmas.{sent-in, length-commands}
+use Rattle.dp_commit.proofs.PlacedLemmas.{live-more}
+use Rattle.dp_tables.specs.Tables.{Seen, AreOf}
+use Rattle.dp_tables.proofs.TableLemmas.{present-marked, live-length}
 
 -- ---- limits
 

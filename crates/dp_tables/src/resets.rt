@@ -25,10 +25,10 @@ ghost use Rattle.dp_msg_meta.specs.declared.message.Control.TheVariants.{ResetBe
 ghost use Rattle.dp_msg_meta.specs.declared.message.Control.TheVariants.{ResetFrom};
 ghost use Rattle.dp_tables.specs.SessionLog.{state_in};
 ghost use Rattle.dp_history.specs.Items.{entry_in, IsIn};
-ghost use Rattle.dp_tables.specs.Tables.{start_of};
 ghost use Rattle.dp_history.specs.Openings.{Holds};
 
 use crate::tables::Tables;
+use dp_commit::start_of;
 use dp_epochs::{
     Connection, Decision, epochs_are_few, histories_are_short, openings, present_users_rise,
 };
@@ -44,20 +44,6 @@ const PART_LIMIT: usize = 262_144;
 
 /// The most bytes that the payloads of its parts have.
 const BYTE_LIMIT: u64 = 1 << 28;
-
-/// From where on a history, which ends there, is kept by the reset of the connection, if it sends
-/// one, by the place that it names.
-pub(crate) fn start_of(owner: Option<u32>, place: Option<u32>, end: usize) -> usize
-    ensures { result ≡ start_of owner place end }
-{
-    match owner {
-        Some(_) => match place {
-            Some(at) => at as usize,
-            None => end,
-        },
-        None => end,
-    }
-}
 
 impl Tables {
     /// Whether a connection other than this one, whose user is present and operator, sends a reset.

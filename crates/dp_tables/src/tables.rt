@@ -5,7 +5,6 @@ ghost use Rattle.std.specs.Prelude.{
   false,
   true,
   ◌+◌,
-  ◌^◌,
   ◌≤◌,
   ◌<◌,
   ◌&&◌,
@@ -23,13 +22,14 @@ ghost use Rattle.dp_messages.specs.declared.message.Entry.{Entry as Piece};
 ghost use Rattle.dp_acl.specs.Table.{StandsFor};
 ghost use Rattle.dp_acl.specs.Permitted.{permitted};
 ghost use Rattle.dp_epochs.specs.Rows.{row_bytes, event_limit, byte_limit};
-ghost use Rattle.dp_epochs.specs.State.{connection_in, connection_of, open_in, open_connection};
+ghost use Rattle.dp_epochs.specs.State.{connection_of, open_connection};
 ghost use Rattle.dp_epochs.specs.State.{next_open, here};
 ghost use Rattle.dp_tables.specs.SessionLog.{state_in};
 
 use crate::resets::mark;
 use dp_acl::Rights;
-use dp_epochs::{Connection, Ending, Event, Place, ShutAt, histories_are_short};
+use dp_commit::{connection, next_open, open_connection};
+use dp_epochs::{Connection, Event, Place, ShutAt, histories_are_short};
 use dp_history::{HistoryFrames, HistoryItem, Opening};
 use dp_messages::Msg;
 use std::alloc::{AllocError, Global};
@@ -78,41 +78,6 @@ impl Model for Tables {
     ghost view = { ledger_of };
 
     ghost invariant = { AreTables };
-}
-
-/// The connection of a number, if it was given out.
-fn connection(connections: &[Connection], conn: u32) -> Option<Connection>
-    ensures { result ≡ connection_in connections.now conn }
-{
-    if conn == 0 {
-        return None;
-    }
-    connections.get(conn as usize - 1).copied()
-}
-
-/// The connection of a number, if it was given out and is open.
-pub(crate) fn open_connection(connections: &[Connection], conn: u32) -> Option<Connection>
-    ensures { result ≡ open_in connections.now conn }
-{
-    let found = connection(connections, conn)?;
-    match found.ending {
-        Ending::Running => Some(found),
-        Ending::Left(_) => None,
-        Ending::Shut => None,
-    }
-}
-
-/// The least number above this one of a connection that is open.
-fn next_open(connections: &[Connection], after: u32) -> Option<u32>
-    requires { length connections.now < 2 ^ 32 }
-    ensures { result ≡ next_open connections.now after }
-{
-    for index in after..connections.len() as u32 {
-        if connections[index as usize].is_open() {
-            return Some(index + 1);
-        }
-    }
-    None
 }
 
 /// Makes the memory ready that any one event needs.

@@ -1,16 +1,15 @@
-use Rattle.std.proofs.Common.{◌≡◌, ◌+◌, ◌++◌, ◌∷◌, [], length, map, sym, ap, subst, ◌∙◌}
-use Rattle.std.proofs.Common.{All, arith}
+use Rattle.std.proofs.Common.{◌≡◌, ◌+◌, ◌++◌, ◌∷◌, [], length, map, sym, ap, subst, ◌∙◌, All, arith}
 use Rattle.std.specs.List.{filter, filter_map}
 use Rattle.dp_msg_meta.specs.Fields.{RiseFrom}
 use Rattle.dp_msg_meta.specs.declared.message.Meta.TheVariants.{ResetMark}
 use Rattle.dp_acl.specs.Carried.{carried}
 use Rattle.dp_acl.specs.Opening.{server_entry, command_entry, goes_over, last_join, opening}
 use Rattle.dp_epochs.specs.State.{epoch_of, user_ids, present_users, sent_commands, kept_by}
-use Rattle.dp_tables.specs.SessionLog.{state_in}
-use Rattle.dp_tables.specs.Inside.{seen}
 use Rattle.dp_history.specs.Items.{commands_in, entry_in, IsIn}
 use Rattle.dp_history.specs.Openings.{Holds}
 use Rattle.dp_history.specs.Users.{mark}
+use Rattle.dp_tables.specs.SessionLog.{state_in}
+use Rattle.dp_tables.specs.Inside.{seen}
 use Rattle.dp_tables.proofs.TableLemmas.{of-ledger, live-fits, live-length}
 use Rattle.dp_tables.proofs.ResetLemmas.{present-is, opens-so, count-fits, kept-short}
 use Rattle.dp_tables.proofs.tables.Tables.open_epoch.Goals as goal
