@@ -13,7 +13,7 @@ use Rattle.dp_commit.specs.Marks.{quiet_after, closed_in, IsThere}
 use Rattle.dp_epochs.specs.declared.connection.Ending.TheVariants as ending
 
 -- an event adds at most one connection
-connections-more : (s : State) (effect : Effect)
+pub connections-more : (s : State) (effect : Effect)
     → length (connections_after s effect) ≤ length s.connections + 1
 connections-more s (TakesUp conn c) =
     omega (
@@ -29,7 +29,7 @@ connections-more s (Left conn c next) =
     )
 connections-more s effect = omega arith
 
-flags-after : (place : Place) (effect : Effect) (flags : List Bool) (cs : List Connection)
+pub flags-after : (place : Place) (effect : Effect) (flags : List Bool) (cs : List Connection)
     → length flags ≡ length cs
     → length (quiet_after effect flags) ≡ length (connections_at place cs effect)
 flags-after place (TakesUp conn c) flags cs same = simp length-set same
@@ -48,7 +48,7 @@ flags-after place (Joined user next) flags cs same =
 flags-after place (Left conn c next) flags cs same = simp length-set same
 flags-after place effect flags cs same = same
 
-length-closed : (conn : ℕ) (o : Option Connection) (cs : List Connection)
+pub length-closed : (conn : ℕ) (o : Option Connection) (cs : List Connection)
     → length (closed_in conn o cs) ≡ length cs
 length-closed conn None cs = refl
 length-closed conn (Some c) cs = length-set cs (conn - 1) (record c { ending = ending.Shut })

@@ -124,7 +124,7 @@ module _ (journal : List Event) (s : State) (e : Event) (effect : Effect)
   J = journal ++ e ∷ []
 
   -- the live history as it is kept after the event
-  items-kept : (live : List HistoryItem) (supply : Supply) → IsSupply journal s e effect supply
+  pub items-kept : (live : List HistoryItem) (supply : Supply) → IsSupply journal s e effect supply
       → map (entry_in journal) live ≡ s.live → All (IsIn journal) live
       → (map (entry_in J) (items_after (own_items (length journal) effect) supply live)
       ≡ live_after s e effect)
@@ -154,7 +154,7 @@ module _ (journal : List Event) (s : State) (e : Event) (effect : Effect)
         (λ i h. (entry-later journal (e ∷ []) i h).1) opening.live.items supply.1.said,
   )
 
-  epoch-kept : (supply : Supply) (epoch : ℕ) → IsSupply journal s e effect supply
+  pub epoch-kept : (supply : Supply) (epoch : ℕ) → IsSupply journal s e effect supply
       → epoch ≡ epoch_of s → epoch_with supply epoch ≡ length (ended_after s effect)
   epoch-kept (Entries first second) epoch supply is =
       is ∙ sym (ap length (live-more s e effect supply.0).1)

@@ -77,7 +77,7 @@ grown-in None place commands command = refl
 grown-in (Some conn) place commands command = refl
 
 -- the size is that of the event's payload, if it says a part
-abbrev PartSize : Event → ℕ → Type 0
+abbrev pub PartSize : Event → ℕ → Type 0
 PartSize e size = (conn : ℕ) (command : Draw) → e ≡ event.Say conn (msg.Part command)
     → size ≡ part_bytes command
 
@@ -214,7 +214,7 @@ reset-left sent journal (Some owner) place parts bytes h e conn =
         (reset-stays sent journal (Some owner) place parts bytes h e)
 
 -- after any event
-reset-kept : (s : State) (journal : List Event) (owner place : Option ℕ) (parts : List ℕ)
+pub reset-kept : (s : State) (journal : List Event) (owner place : Option ℕ) (parts : List ℕ)
     (bytes : ℕ) → IsResetIn s.stream journal owner place parts bytes → (e : Event)
     (effect : Effect) → IsEffect s e effect → (size : ℕ) → PartSize e size
     → IsResetIn (stream_after e s.stream effect) (journal ++ e ∷ []) (owner_after effect owner)
