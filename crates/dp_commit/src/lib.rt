@@ -4,6 +4,7 @@
 
 mod connections;
 mod live;
+mod room;
 mod sending;
 mod supply;
 
@@ -12,5 +13,6 @@ pub use connections::{
     shut_connection,
 };
 pub use live::{keep_frames, note_own, own_item, place};
-pub use sending::{note_place, note_reset, start_of};
+pub use room::reserve;
+pub use sending::{note_reset, start_of};
 pub use supply::{Supply, boxed, filtered, owner_entry};

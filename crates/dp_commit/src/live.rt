@@ -12,7 +12,9 @@ ghost use Rattle.dp_history.specs.Made.{AreMadeOf};
 ghost use Rattle.dp_commit.specs.Placed.{own_entries, own_items, SaysOwn, supplied, items_after};
 ghost use Rattle.dp_commit.specs.Placed.{unboxed, server_items, IsWithSupply, AreFramesWith};
 ghost use Rattle.dp_commit.specs.Placed.{epoch_with};
+ghost use Rattle.dp_commit.specs.Sending.{next_place};
 
+use crate::sending::note_begun;
 use crate::supply::Supply;
 use dp_acl::Rights;
 use dp_epochs::{Effect, Event};
@@ -41,17 +43,20 @@ fn note_said(rights: &mut Rights, event: Event, user: u8) -> Event
     }
 }
 
-/// Notes the entry of what the event says, if that is placed.
-pub fn note_own(rights: &mut Rights, event: Event, effect: Effect) -> Event
+/// Notes the entry of what the event says, if that is placed, and from where on a reset keeps
+/// entries, if the event begins one.
+pub fn note_own(rights: &mut Rights, place: &mut Option<u32>, event: Event, effect: Effect) -> Event
     requires said { SaysOwn event effect }
     requires room { length (own_entries event effect) ≤ rights.old.room }
     ensures event { result ≡ event }
     ensures stands { (history : List Piece) → StandsFor rights.old history
         → StandsFor rights.new (history ++ own_entries event effect) }
     ensures room { rights.old.room ≤ rights.new.room + length (own_entries event effect) }
+    ensures place { place.new ≡ next_place event effect place.old }
 {
     match effect {
         Effect::Placed { connection, .. } => note_said(rights, event, connection.user),
+        Effect::Began { .. } => note_begun(place, event),
         _ => event,
     }
 }

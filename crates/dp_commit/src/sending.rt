@@ -3,8 +3,8 @@
 ghost use Rattle.std.specs.Prelude.{◌≡◌, ◌^◌, ◌<◌, ◌≤◌, [], vec_len, vec_capacity};
 ghost use Rattle.dp_epochs.specs.Effects.{own_message};
 ghost use Rattle.dp_epochs.specs.State.{place_in};
-ghost use Rattle.dp_commit.specs.Sending.{start_of, is_sender, owner_after, next_place};
-ghost use Rattle.dp_commit.specs.Sending.{parts_after, bytes_after};
+ghost use Rattle.dp_commit.specs.Sending.{start_of, is_sender, owner_after, parts_after};
+ghost use Rattle.dp_commit.specs.Sending.{bytes_after};
 
 use dp_epochs::{Effect, Event};
 use dp_messages::Msg;
@@ -58,13 +58,13 @@ fn place_in(event: &Event) -> Option<u32>
     }
 }
 
-/// Notes from where on a reset keeps entries, where the event begins one.
-pub fn note_place(place: &mut Option<u32>, effect: Effect, event: &Event)
-    ensures { place.new ≡ next_place event.now effect place.old }
+/// Notes from where on the reset keeps entries that the event begins.
+pub(crate) fn note_begun(place: &mut Option<u32>, event: Event) -> Event
+    ensures event { result ≡ event }
+    ensures place { place.new ≡ place_in (own_message event) }
 {
-    if let Effect::Began { .. } = effect {
-        *place = place_in(event);
-    }
+    *place = place_in(&event);
+    event
 }
 
 /// Changes the reset that is being sent, by the event of this number, which has a payload of this

@@ -9,8 +9,8 @@ ghost use Rattle.dp_tables.specs.Ready.{MayKeep, IsReady};
 use crate::ready::Ready;
 use crate::tables::Tables;
 use dp_commit::{
-    Supply, flag_connection, keep_frames, note_connection, note_own, note_place, note_reset,
-    own_item, place, shut_connection, start_of,
+    Supply, flag_connection, keep_frames, note_connection, note_own, note_reset, own_item, place,
+    shut_connection, start_of,
 };
 use dp_epochs::{
     Effect, Event, Reply, ShutAt, effects_are_made, epochs_are_few, joins_stay, steps_lead_on,
@@ -64,7 +64,6 @@ impl Tables {
         let from = start_of(self.owner, self.place, self.live.len());
         keep_frames(&mut self.frames, &self.journal, &self.live, from, &supply);
         self.row_bytes += row_length;
-        note_place(&mut self.place, effect, &event);
         note_reset(
             &mut self.owner,
             &mut self.parts,
@@ -82,7 +81,7 @@ impl Tables {
             here,
             n,
         );
-        let event = note_own(&mut self.rights, event, effect);
+        let event = note_own(&mut self.rights, &mut self.place, event, effect);
         place(
             &mut self.epoch,
             &mut self.live,

@@ -1,10 +1,12 @@
 //! Resets: who may send one, what becomes of its messages, and how it opens the next epoch.
 
-ghost use Rattle.std.specs.Prelude.{◌≡◌, ◌+◌, ◌≤◌, Some, false, is_some, IfOk, All, map, length};
-ghost use Rattle.std.specs.Prelude.{nat_le};
+ghost use Rattle.std.specs.Prelude.{◌≡◌, ◌+◌, ◌≤◌, ◌∷◌, [], List, Some, false, is_some, IfOk, OnOk};
+ghost use Rattle.std.specs.Prelude.{All, map, length, nat_le};
 ghost use Rattle.std.specs.List.{filter};
 ghost use Rattle.std.specs.Option.{option_map_or};
+ghost use Rattle.dp_acl.specs.Carried.{carried};
 ghost use Rattle.dp_acl.specs.Opening.{goes_over, opening, server_entry};
+ghost use Rattle.dp_messages.specs.declared.message.Entry.{Entry as Piece};
 ghost use Rattle.dp_messages.specs.declared.message.Msg.TheVariants as msg;
 ghost use Rattle.dp_epochs.specs.State.{
   epoch_of,
@@ -26,6 +28,7 @@ ghost use Rattle.dp_msg_meta.specs.declared.message.Control.TheVariants.{ResetFr
 ghost use Rattle.dp_tables.specs.SessionLog.{state_in};
 ghost use Rattle.dp_history.specs.Items.{entry_in, IsIn};
 ghost use Rattle.dp_history.specs.Openings.{Holds};
+ghost use Rattle.dp_tables.specs.Opened.{with_rest};
 
 use crate::tables::Tables;
 use dp_commit::start_of;
@@ -165,6 +168,50 @@ impl Tables {
         rest_of(&self.live, from)
     }
 
+    /// How many users are present, and the messages on rights that go over into the next epoch.
+    fn carry(&self) -> Result<(usize, Vec<Meta>), AllocError>
+        ensures { IfOk result (λ over.
+            (over.0 ≡ length (present_users (state_in self.now)))
+            × (over.1.items ≡ carried (state_in self.now).live (present_users (state_in self.now)))) }
+    {
+        present_users_rise();
+        let present = present_ids(self.allocator(), &self.present)?;
+        let metas = self.rights.carry(&present)?;
+        Ok((present.as_slice().len(), metas))
+    }
+
+    /// Adds to an opening what stands after its mark: the Joins of the present users, these messages
+    /// on rights, the commands of the reset that is being sent, and what it keeps, so many entries.
+    fn fill(&self, opening: &mut Opening, metas: &[Meta], kept: usize) -> Result<(), AllocError>
+        ensures { OnOk result ((history : List Piece)
+            → Holds self.now.journal opening.old history
+            → Holds self.now.journal opening.new
+            (with_rest (state_in self.now) history metas.now)) }
+    {
+        let items = self.kept_items();
+        opening.add_joins(&self.journal, &self.opens, &self.present)?;
+        opening.add_metas(metas)?;
+        opening.add_commands(&self.parts)?;
+        opening.add_kept(&self.journal, items, kept)?;
+        Ok(())
+    }
+
+    /// How the next epoch opens, with this mark and these messages on rights.
+    fn open_with(&self, first: Entry, metas: &[Meta], kept: usize) -> Result<Opening, AllocError>
+        ensures { IfOk result (λ o. Holds self.now.journal o
+            (with_rest (state_in self.now) (first ∷ []) metas.now)) }
+    {
+        let mut opening = Opening::new(self.allocator())?;
+        opening.add(first)?;
+        match self.fill(&mut opening, metas, kept) {
+            Ok(()) => Ok(opening),
+            Err(error) => {
+                drop(opening);
+                Err(error)
+            }
+        }
+    }
+
     /// How the next epoch opens, with the commands of the reset that is being sent and what it
     /// keeps.
     pub(crate) fn open_epoch(&self) -> Result<Opening, AllocError>
@@ -175,21 +222,12 @@ impl Tables {
     {
         histories_are_short();
         openings();
-        present_users_rise();
-        let alloc = self.allocator();
-        let present = present_ids(alloc, &self.present)?;
-        let metas = self.rights.carry(&present)?;
+        let over = self.carry()?;
         let items = self.kept_items();
         let kept = count_kept(&self.journal, items);
-        let carried = present.as_slice().len() + metas.len() + self.parts.len() + kept;
-        drop(present);
-        let mut opening = Opening::new(alloc)?;
-        opening.add(mark(self.next_epoch(), carried as u32))?;
-        opening.add_joins(&self.journal, &self.opens, &self.present)?;
-        opening.add_metas(&metas)?;
-        opening.add_commands(&self.parts)?;
-        opening.add_kept(&self.journal, items, kept)?;
-        Ok(opening)
+        let after = over.0 + over.1.len() + self.parts.len() + kept;
+        let first = mark(self.next_epoch(), after as u32);
+        self.open_with(first, &over.1, kept)
     }
 }
 

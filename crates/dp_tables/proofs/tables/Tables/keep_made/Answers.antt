@@ -196,7 +196,7 @@ invariant_of-self c =
       present = c.note_connection.ensures.present;
       opens = c.note_connection.ensures.opens ∙ ap (λ n. opens_after n effect t.opens) count;
       owner = c.note_reset.ensures.owner;
-      place = c.note_place.ensures;
+      place = c.note_own-event.ensures.place;
       parts = c.note_reset.ensures.parts
           ∙ ap (λ n. parts_after n effect t.owner t.parts.items) count;
       part_bytes = c.note_reset.ensures.bytes
