@@ -1,6 +1,6 @@
 //! Resets: who may send one, what becomes of its messages, and how it opens the next epoch.
 
-ghost use Rattle.std.specs.Prelude.{◌≡◌, ◌+◌, ◌≤◌, ◌∷◌, [], List, Some, false, is_some, IfOk, OnOk};
+ghost use Rattle.std.specs.Prelude.{◌≡◌, ◌+◌, ◌^◌, ◌<◌, ◌≤◌, ◌∷◌, [], List, Some, false, is_some, IfOk, OnOk};
 ghost use Rattle.std.specs.Prelude.{All, map, length, nat_le};
 ghost use Rattle.std.specs.List.{filter};
 ghost use Rattle.std.specs.Option.{option_map_or};
@@ -180,15 +180,22 @@ impl Tables {
         Ok((present.as_slice().len(), metas))
     }
 
-    /// Adds to an opening what stands after its mark: the Joins of the present users, these messages
-    /// on rights, the commands of the reset that is being sent, and what it keeps, so many entries.
-    fn fill(&self, opening: &mut Opening, metas: &[Meta], kept: usize) -> Result<(), AllocError>
-        ensures { OnOk result ((history : List Piece)
-            → Holds self.now.journal opening.old history
+    /// Fills an opening with this mark, and with what stands after it: the Joins of the present
+    /// users, these messages on rights, the commands of the reset that is being sent, and what it
+    /// keeps, for which memory is taken at once.
+    fn fill(
+        &self,
+        opening: &mut Opening,
+        first: Entry,
+        metas: &[Meta],
+        kept: usize,
+    ) -> Result<(), AllocError>
+        ensures { OnOk result (Holds self.now.journal opening.old []
             → Holds self.now.journal opening.new
-            (with_rest (state_in self.now) history metas.now)) }
+            (with_rest (state_in self.now) (first ∷ []) metas.now)) }
     {
         let items = self.kept_items();
+        opening.add(first)?;
         opening.add_joins(&self.journal, &self.opens, &self.present)?;
         opening.add_metas(metas)?;
         opening.add_commands(&self.parts)?;
@@ -202,8 +209,7 @@ impl Tables {
             (with_rest (state_in self.now) (first ∷ []) metas.now)) }
     {
         let mut opening = Opening::new(self.allocator())?;
-        opening.add(first)?;
-        match self.fill(&mut opening, metas, kept) {
+        match self.fill(&mut opening, first, metas, kept) {
             Ok(()) => Ok(opening),
             Err(error) => {
                 drop(opening);
@@ -225,10 +231,18 @@ impl Tables {
         let over = self.carry()?;
         let items = self.kept_items();
         let kept = count_kept(&self.journal, items);
-        let after = over.0 + over.1.len() + self.parts.len() + kept;
-        let first = mark(self.next_epoch(), after as u32);
+        let after = count_after(over.0, over.1.len(), self.parts.len(), kept);
+        let first = mark(self.next_epoch(), after);
         self.open_with(first, &over.1, kept)
     }
+}
+
+/// How many entries stand after a mark: those on users, on rights, of commands, and those kept.
+fn count_after(users: usize, metas: usize, parts: usize, kept: usize) -> u32
+    requires { users + metas + parts + kept < 2 ^ 32 }
+    ensures { result ≡ users + metas + parts + kept }
+{
+    (users + metas + parts + kept) as u32
 }
 
 /// The mark of an epoch that opens with this number of entries after it.

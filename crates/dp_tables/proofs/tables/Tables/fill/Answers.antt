@@ -1,4 +1,4 @@
-use Rattle.std.proofs.Common.{◌≡◌, ◌++◌, map, sym, ap, subst, ◌∙◌, All}
+use Rattle.std.proofs.Common.{◌∷◌, [], ◌≡◌, ◌++◌, map, sym, ap, subst, ◌∙◌, All}
 use Rattle.std.specs.List.{filter, filter_map}
 use Rattle.dp_acl.specs.Opening.{server_entry, command_entry, goes_over, last_join}
 use Rattle.dp_epochs.specs.State.{user_ids, kept_by}
@@ -19,7 +19,7 @@ add_kept-requires c =
     c.kept_items-items.ensures.said
 
 pub returns : goal.returns
-returns c = λ history holds.
+returns c = λ holds.
     let t = c.self.inside in
     let s = state_in c.args.self.now in
     let are = of-ledger t c.args.self.now c.self.invariant c.self.view_is in
@@ -33,7 +33,9 @@ returns c = λ history holds.
     let joins = rw c.deref.ensures.value at c.in_ok-add_joins.ensures in
     let drawn = rw c.deref-2.ensures.value at c.in_ok-add_commands.ensures in
     let kept_on = rw c.deref-3.ensures.value at c.in_ok-add_kept.ensures in
-    let one = subst (λ j. Holds j c.args.opening.now history) (sym view) holds in
+    let history = c.args.first ∷ [] in
+    let none = subst (λ j. Holds j c.args.opening.now []) (sym view) holds in
+    let one = c.in_ok-add.ensures J [] none in
     let two = joins history s.live are.joined one in
     let present = filter (mark t.present) user_ids in
     let three = c.in_ok-add_metas.ensures J (history ++ filter_map (last_join s.live) present) two
@@ -42,6 +44,6 @@ returns c = λ history holds.
     ++ map server_entry metas) are.reset.said three in
     let before = ((history ++ filter_map (last_join s.live) present) ++ map server_entry metas)
     ++ map command_entry (commands_in J t.parts.items) in
-    subst (λ j. Holds j c.add_kept.new.opening (with_rest s history metas)) view
-    (subst (Holds J c.add_kept.new.opening) (rest-is s (seen t) are history metas _ kept)
+    subst (λ j. Holds j c.add_kept.new.self (with_rest s history metas)) view
+    (subst (Holds J c.add_kept.new.self) (rest-is s (seen t) are history metas _ kept)
     (kept_on before four))

@@ -16,8 +16,8 @@ count_kept-kept-requires c =
     (sym (ap (λ l. l.journal) c.self.view_is) ∙ sym c.deref.ensures.value)
     c.kept_items-items.ensures.said
 
-pub overflow_add-after-3 : goal.overflow_add-after-3
-overflow_add-after-3 c =
+pub count_after-after-requires : goal.count_after-after-requires
+count_after-after-requires c =
     let t = c.self.inside in
     let s = state_in c.args.self.now in
     let are = of-ledger t c.args.self.now c.self.invariant c.self.view_is in
@@ -30,28 +30,8 @@ overflow_add-after-3 c =
       arith,
       after-fits s (seen t) are c.openings.ensures.short _ _ c.in_ok-over.ensures.0
           c.in_ok-over.ensures.1,
-      c.in_ok-over.over.1.ok.0,
-      t.parts.ok.0,
-      kept,
-      kept-short s (seen t) are,
-      live-length s (seen t) are,
-      live-fits c.histories_are_short.ensures t c.self.invariant,
-    )
-
-pub overflow_cast-after : goal.overflow_cast-after
-overflow_cast-after c =
-    let t = c.self.inside in
-    let s = state_in c.args.self.now in
-    let are = of-ledger t c.args.self.now c.self.invariant c.self.view_is in
-    let kept : c.count_kept-kept.result ≡ length (kept_by s.stream s.live) =
-    rw c.deref.ensures.value at c.count_kept-kept.ensures
-    ∙ ap (λ j. length (filter (λ e. goes_over e.msg)
-    (map (entry_in j) c.kept_items-items.result.now))) (ap (λ l. l.journal) c.self.view_is)
-    ∙ ap length c.kept_items-items.ensures.kept in
-    omega (
-      arith,
-      after-fits s (seen t) are c.openings.ensures.short _ _ c.in_ok-over.ensures.0
-          c.in_ok-over.ensures.1,
+      c.len.ensures,
+      c.len-2.ensures,
       c.in_ok-over.over.1.ok.0,
       t.parts.ok.0,
       kept,
@@ -72,8 +52,17 @@ returns c =
     (map (entry_in j) c.kept_items-items.result.now))) (ap (λ l. l.journal) c.self.view_is)
     ∙ ap length c.kept_items-items.ensures.kept in
     subst (λ entries. IfOk c.open_with.result (λ o. Holds c.args.self.now.journal o entries))
-    (opens-whole s (seen t) are _ _ _ metas.items c.mark-first.result c.in_ok-over.ensures.0
-    c.in_ok-over.ensures.1 c.next_epoch.ensures
-    (omega (arith, c.len.ensures, c.len-2.ensures, metas.ok.0, t.parts.ok.0, kept))
+    (opens-whole s (seen t) are c.in_ok-over.over.0 c.next_epoch.result
+    c.count_after-after.result metas.items
+    c.mark-first.result c.in_ok-over.ensures.0 c.in_ok-over.ensures.1 c.next_epoch.ensures
+    (omega (
+      arith,
+      c.count_after-after.ensures,
+      c.len.ensures,
+      c.len-2.ensures,
+      metas.ok.0,
+      t.parts.ok.0,
+      kept,
+    ))
     c.mark-first.ensures)
     (rw c.deref-2.ensures.value at c.open_with.ensures)
