@@ -3,7 +3,7 @@ use Rattle.std.specs.Prelude.{◌≡◌, ℕ, ◌≤◌, Bool, Option, List, len
 use Rattle.dp_acl.specs.Table.{Kept, StandsFor}
 use Rattle.dp_epochs.specs.declared.connection.Connection.{Connection}
 use Rattle.dp_epochs.specs.declared.event.Event.{Event}
-use Rattle.dp_epochs.specs.State.{State, epoch_of, part_bytes}
+use Rattle.dp_epochs.specs.State.{State, epoch_of}
 use Rattle.dp_history.specs.declared.item.HistoryItem.{HistoryItem}
 use Rattle.dp_history.specs.Items.{entry_in, IsIn}
 use Rattle.dp_history.specs.Users.{AreJoined}

@@ -1,12 +1,11 @@
 //! Resets: who may send one, what becomes of its messages, and how it opens the next epoch.
 
-ghost use Rattle.std.specs.Prelude.{◌≡◌, ◌+◌, ◌^◌, ◌<◌, ◌≤◌, ◌∷◌, [], List, Some, false, is_some, IfOk, OnOk};
-ghost use Rattle.std.specs.Prelude.{All, map, length, nat_le};
+ghost use Rattle.std.specs.Prelude.{◌≡◌, ◌+◌, ◌^◌, ◌<◌, ◌≤◌, ◌∷◌, [], Some, false, is_some};
+ghost use Rattle.std.specs.Prelude.{IfOk, OnOk, All, map, length, nat_le};
 ghost use Rattle.std.specs.List.{filter};
 ghost use Rattle.std.specs.Option.{option_map_or};
 ghost use Rattle.dp_acl.specs.Carried.{carried};
 ghost use Rattle.dp_acl.specs.Opening.{goes_over, opening, server_entry};
-ghost use Rattle.dp_messages.specs.declared.message.Entry.{Entry as Piece};
 ghost use Rattle.dp_messages.specs.declared.message.Msg.TheVariants as msg;
 ghost use Rattle.dp_epochs.specs.State.{
   epoch_of,
@@ -170,9 +169,10 @@ impl Tables {
 
     /// How many users are present, and the messages on rights that go over into the next epoch.
     fn carry(&self) -> Result<(usize, Vec<Meta>), AllocError>
-        ensures { IfOk result (λ over.
-            (over.0 ≡ length (present_users (state_in self.now)))
-            × (over.1.items ≡ carried (state_in self.now).live (present_users (state_in self.now)))) }
+        ensures users { IfOk result (λ over.
+            over.0 ≡ length (present_users (state_in self.now))) }
+        ensures metas { IfOk result (λ over. over.1.items
+            ≡ carried (state_in self.now).live (present_users (state_in self.now))) }
     {
         present_users_rise();
         let present = present_ids(self.allocator(), &self.present)?;

@@ -15,12 +15,17 @@ carry-requires c =
     subst (RiseFrom 1) (sym (c.in_ok-present.ensures ∙ present-is s (seen t) are))
     (c.present_users_rise.ensures s)
 
-pub returns : goal.returns
-returns c =
+pub returns-clause-users : goal.returns-clause-users
+returns-clause-users c =
     let t = c.self.inside in
     let s = state_in c.args.self.now in
     let are = of-ledger t c.args.self.now c.self.invariant c.self.view_is in
-    let present = c.in_ok-present.ensures ∙ present-is s (seen t) are in (
-      ap length (c.as_slice.ensures.value ∙ present),
-      c.in_ok-metas.ensures s.live are.stands ∙ ap (carried s.live) present,
-    )
+    ap length (c.as_slice.ensures.value ∙ c.in_ok-present.ensures ∙ present-is s (seen t) are)
+
+pub returns-clause-metas : goal.returns-clause-metas
+returns-clause-metas c =
+    let t = c.self.inside in
+    let s = state_in c.args.self.now in
+    let are = of-ledger t c.args.self.now c.self.invariant c.self.view_is in
+    c.in_ok-metas.ensures s.live are.stands
+    ∙ ap (carried s.live) (c.in_ok-present.ensures ∙ present-is s (seen t) are)

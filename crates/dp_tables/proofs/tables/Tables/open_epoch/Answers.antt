@@ -28,8 +28,8 @@ count_after-after-requires c =
     ∙ ap length c.kept_items-items.ensures.kept in
     omega (
       arith,
-      after-fits s (seen t) are c.openings.ensures.short _ _ c.in_ok-over.ensures.0
-          c.in_ok-over.ensures.1,
+      after-fits s (seen t) are c.openings.ensures.short _ _ c.in_ok-over.ensures.users
+          c.in_ok-over.ensures.metas,
       c.len.ensures,
       c.len-2.ensures,
       c.in_ok-over.over.1.ok.0,
@@ -53,8 +53,8 @@ returns c =
     ∙ ap length c.kept_items-items.ensures.kept in
     subst (λ entries. IfOk c.open_with.result (λ o. Holds c.args.self.now.journal o entries))
     (opens-whole s (seen t) are c.in_ok-over.over.0 c.next_epoch.result
-    c.count_after-after.result metas.items
-    c.mark-first.result c.in_ok-over.ensures.0 c.in_ok-over.ensures.1 c.next_epoch.ensures
+    c.count_after-after.result metas.items c.mark-first.result c.in_ok-over.ensures.users
+    c.in_ok-over.ensures.metas c.next_epoch.ensures
     (omega (
       arith,
       c.count_after-after.ensures,
