@@ -1,24 +1,24 @@
 -- The causes of effects, by the tables.
-use Rattle.std.proofs.Common.{◌≡◌, ℕ, ◌-◌, ◌<◌, Bool, true, false, not, ◌&&◌, if◌then◌else◌}
-use Rattle.std.proofs.Common.{List, set, Option, None, Some, refl, sym, ap, ◌∙◌}
+use Rattle.std.proofs.Common.{◌≡◌, ℕ, ◌-◌, ◌<◌, Bool, true, false, not, ◌&&◌, if◌then◌else◌, List}
+use Rattle.std.proofs.Common.{set, Option, None, Some, refl, sym, ap, ◌∙◌}
 use Rattle.std.specs.List.{list_any, find}
 use Rattle.dp_msg_meta.specs.declared.message.Meta.TheVariants.{Leave}
-use Rattle.dp_messages.specs.declared.message.Msg.TheVariants as msg
 use Rattle.dp_acl.specs.Rights.{is_operator}
 use Rattle.dp_acl.specs.Laws.{OperatorsStay}
 use Rattle.dp_epochs.specs.declared.connection.Connection.{Connection}
-use Rattle.dp_epochs.specs.declared.connection.Ending.TheVariants as ending
-use Rattle.dp_epochs.specs.declared.event.Event.TheVariants as event
 use Rattle.dp_epochs.specs.Effects.{IsJoin, IsLeave}
 use Rattle.dp_epochs.specs.State.{State, here, entry_of, is_name, is_present, free_id, user_ids}
-use Rattle.dp_epochs.specs.State.{left, open_connection, owner_on_leave}
-use Rattle.dp_epochs.specs.State.{present_users}
+use Rattle.dp_epochs.specs.State.{left, open_connection, owner_on_leave, present_users}
 use Rattle.dp_epochs.proofs.OpenConnections.{open_is_found}
 use Rattle.dp_history.specs.Users.{mark, first_operator, next_operator}
 use Rattle.dp_history.proofs.Ranges.{find_user-same, any_user-same, list_any-filter}
-use Rattle.dp_tables.specs.Tables.{is_holder, Seen, AreOf}
-use Rattle.dp_tables.proofs.Holders.{any-marked}
+use Rattle.dp_commit.specs.Marks.{is_holder}
+use Rattle.dp_commit.proofs.Holders.{any-marked}
+use Rattle.dp_tables.specs.Tables.{Seen, AreOf}
 use Rattle.dp_tables.proofs.TableLemmas.{present-marked, ends-marked}
+use Rattle.dp_messages.specs.declared.message.Msg.TheVariants as msg
+use Rattle.dp_epochs.specs.declared.connection.Ending.TheVariants as ending
+use Rattle.dp_epochs.specs.declared.event.Event.TheVariants as event
 
 module _ (s : State) (t : Seen) (are : AreOf s t) where
   -- ---- opening

@@ -1,25 +1,14 @@
 -- What holds if an event may be kept.
-use Rattle.std.proofs.Common.{◌≡◌, ℕ, ◌+◌, ◌<◌, ◌≤◌, true, nat_lt, nat_le, List, length, ap, arith}
+use Rattle.std.proofs.Common.{◌≡◌, ℕ, ◌+◌, ◌<◌, ◌≤◌, true, nat_lt, nat_le, length, ap, arith}
 use Rattle.std.specs.Prelude.{vec_len, vec_capacity}
 use Rattle.std.proofs.lemmas.Bool.{ltb-true, leb-true, and_parts}
-use Rattle.dp_epochs.specs.declared.connection.Connection.{Connection}
 use Rattle.dp_epochs.specs.declared.event.Event.{Event}
 use Rattle.dp_epochs.specs.declared.effect.Effect.{Effect}
-use Rattle.dp_epochs.specs.declared.effect.Effect.TheVariants.{TakesUp, Left}
-use Rattle.dp_epochs.specs.Effects.{IsEffect}
 use Rattle.dp_epochs.specs.Rows.{row_of, row_bytes, event_limit, byte_limit}
-use Rattle.dp_epochs.specs.State.{State}
-use Rattle.dp_tables.specs.declared.ready.Supply.{Supply}
+use Rattle.dp_commit.specs.declared.supply.Supply.{Supply}
 use Rattle.dp_tables.specs.declared.tables.Tables.TheInside.{Inside}
 use Rattle.dp_tables.specs.Inside.{is_ready, ledger_of, AreTables}
-use Rattle.dp_tables.specs.Ready.{IsThere, MayKeep}
-
--- the connection that takes up an epoch or leaves was given out
-pub there-by : (s : State) (e : Event) (effect : Effect) (cs : List Connection)
-    → IsEffect s e effect → s.connections ≡ cs → IsThere cs effect
-there-by s e (TakesUp conn c) cs cause same = rw same at cause.0.at.given
-there-by s e (Left conn c next) cs cause same = rw same at cause.at.given
-there-by s e effect cs cause same = tt
+use Rattle.dp_tables.specs.Ready.{MayKeep}
 
 -- there are no more connections than events
 pub connections-fit : (t : Inside) → AreTables t → length t.connections.items ≤ event_limit

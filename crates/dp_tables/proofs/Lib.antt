@@ -1,9 +1,7 @@
-pub mod Holders
 pub mod TableLemmas
 pub mod ResetLemmas
 pub mod PageLemmas
 pub mod CauseLemmas
-pub mod QuietLemmas
 pub mod ReadLemmas
 pub mod ReplayLemmas
 pub mod KeepLemmas

@@ -1,8 +1,6 @@
 -- Pages of a history, and the frames of its first entries.
-use Rattle.std.proofs.Common.{◌≡◌, ℕ, ◌+◌, ◌<◌, ◌≤◌, max, List, ◌∷◌, ◌++◌, length, []}
-use Rattle.std.proofs.Common.{map, take, drop, append-nil, Some, Result, Ok, Err, IfOk, sym, ap}
-use Rattle.std.proofs.Common.{◌∙◌}
-use Rattle.std.proofs.Common.{arith}
+use Rattle.std.proofs.Common.{◌≡◌, ℕ, ◌+◌, ◌<◌, ◌≤◌, max, List, ◌∷◌, ◌++◌, length, [], map, take}
+use Rattle.std.proofs.Common.{drop, append-nil, Some, Result, Ok, Err, IfOk, sym, ap, ◌∙◌, arith}
 use Rattle.std.specs.List.{slice_get}
 use Rattle.std.proofs.lemmas.List.{drop-take, take-append-le, length-take-le, length-drop}
 use Rattle.std.proofs.lemmas.List.{take-take}
@@ -14,8 +12,8 @@ use Rattle.dp_history.specs.Frames.{frames_of}
 use Rattle.dp_history.specs.Made.{AreMadeOf}
 use Rattle.dp_history.specs.declared.item.HistoryItem.{HistoryItem}
 use Rattle.dp_history.specs.Items.{entry_in}
-use Rattle.dp_tables.proofs.ReadLemmas.{page-is}
 use Rattle.dp_history.proofs.ItemLemmas.{drop-at}
+use Rattle.dp_tables.proofs.ReadLemmas.{page-is}
 
 -- ---- a page of one entry
 

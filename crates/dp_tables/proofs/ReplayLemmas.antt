@@ -1,7 +1,6 @@
 -- Which rows may stand next.
-use Rattle.std.proofs.Common.{◌≡◌, ℕ, ◌+◌, ◌&&◌, nat_lt, nat_le, true, false, List, [], ◌∷◌}
-use Rattle.std.proofs.Common.{Option, None, Some, MatchOption}
-use Rattle.std.proofs.Common.{◌++◌, length, refl, sym, ap, subst, ◌∙◌}
+use Rattle.std.proofs.Common.{◌≡◌, ℕ, ◌+◌, ◌&&◌, nat_lt, nat_le, true, false, List, [], ◌∷◌, Option}
+use Rattle.std.proofs.Common.{None, Some, MatchOption, ◌++◌, length, refl, sym, ap, subst, ◌∙◌}
 use Rattle.dp_keeper.specs.declared.row.Row.{Row}
 use Rattle.dp_epochs.specs.declared.effect.Effect.{Effect}
 use Rattle.dp_epochs.specs.declared.event.Event.{Event}
@@ -9,9 +8,10 @@ use Rattle.dp_epochs.specs.Effects.{IsEffect}
 use Rattle.dp_epochs.specs.Rows.{row_of, row_bytes, event_limit, byte_limit, has_room}
 use Rattle.dp_epochs.specs.Spelled.{RowSpells}
 use Rattle.dp_epochs.specs.Resumed.{MayStand, MayNotStand}
-use Rattle.dp_tables.specs.declared.ready.Supply.{Supply}
+use Rattle.dp_commit.specs.declared.supply.Supply.{Supply}
+use Rattle.dp_commit.specs.Placed.{IsSupply}
 use Rattle.dp_tables.specs.SessionLog.{SessionLog, state_in}
-use Rattle.dp_tables.specs.Ready.{MayKeep, IsSupply}
+use Rattle.dp_tables.specs.Ready.{MayKeep}
 use Rattle.dp_tables.specs.Replay.{Replays}
 
 -- a fact for no value

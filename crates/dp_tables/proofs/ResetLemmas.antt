@@ -1,10 +1,7 @@
 -- What a reset that is being sent may have, and how the next epoch opens.
 use Rattle.std.proofs.Common.{◌≡◌, ℕ, zero, suc, ◌+◌, ◌-◌, ◌<◌, ◌≤◌, ◌&&◌, Bool, true, false, cond}
-use Rattle.std.proofs.Common.{drop, All}
-use Rattle.std.proofs.Common.{[]}
-use Rattle.std.proofs.Common.{nat_lt, nat_le, is_some, List, ◌∷◌, ◌++◌, length, map}
-use Rattle.std.proofs.Common.{Option, None, Some}
-use Rattle.std.proofs.Common.{refl, sym, ap, subst, ◌∙◌, ⊎_elim, arith}
+use Rattle.std.proofs.Common.{drop, All, [], nat_lt, nat_le, is_some, List, ◌∷◌, ◌++◌, length, map}
+use Rattle.std.proofs.Common.{Option, None, Some, refl, sym, ap, subst, ◌∙◌, ⊎_elim, arith}
 use Rattle.std.proofs.Common.{length-append}
 use Rattle.std.specs.List.{filter, filter_map, cons_option, range_with_len, sum_by}
 use Rattle.std.specs.Option.{option_map}
@@ -14,15 +11,14 @@ use Rattle.std.proofs.Math.Seq.{drop-length}
 use Rattle.std.proofs.lemmas.List.{length-map, drop-map, length-drop}
 use Rattle.std.proofs.lemmas.List.Elements.{All-drop}
 use Rattle.dp_msg_draw.specs.declared.draw.Draw.{Draw}
-use Rattle.dp_messages.specs.declared.message.Entry.{Entry}
 use Rattle.dp_msg_meta.specs.declared.message.Meta.{Meta}
 use Rattle.dp_msg_meta.specs.declared.message.Meta.TheVariants.{ResetMark}
+use Rattle.dp_messages.specs.declared.message.Entry.{Entry}
 use Rattle.dp_acl.specs.Carried.{carried}
-use Rattle.dp_acl.specs.Opening.{carried_entries, opening, opening_limit}
-use Rattle.dp_acl.specs.Opening.{command_entry, goes_over, last_join, part_limit, server_entry}
-use Rattle.dp_epochs.specs.State.{State, Stream, epoch_of, is_present, present_users}
-use Rattle.dp_epochs.specs.State.{user_ids, fits_reset, part_bytes, reset_byte_limit}
-use Rattle.dp_epochs.specs.State.{sent_commands, kept_by}
+use Rattle.dp_acl.specs.Opening.{carried_entries, opening, opening_limit, command_entry, goes_over}
+use Rattle.dp_acl.specs.Opening.{last_join, part_limit, server_entry}
+use Rattle.dp_epochs.specs.State.{State, Stream, epoch_of, is_present, present_users, user_ids}
+use Rattle.dp_epochs.specs.State.{fits_reset, part_bytes, reset_byte_limit, sent_commands, kept_by}
 use Rattle.dp_epochs.specs.declared.event.Event.{Event}
 use Rattle.dp_epochs.specs.declared.effect.Effect.{Effect}
 use Rattle.dp_epochs.specs.declared.effect.Effect.TheVariants.{Reopened}
@@ -30,17 +26,20 @@ use Rattle.dp_epochs.specs.Effects.{entries_of, live_after}
 use Rattle.dp_epochs.proofs.OpeningLemmas.{kept-few, going-few}
 use Rattle.dp_history.specs.declared.frames.HistoryFrames.{HistoryFrames}
 use Rattle.dp_history.specs.Made.{AreMadeOf, going_over}
-use Rattle.dp_history.proofs.MadeLemmas.{made-on}
-use Rattle.dp_tables.specs.declared.ready.Supply.{Supply}
-use Rattle.dp_tables.specs.declared.ready.Supply.TheVariants.{Entries, Opens}
-use Rattle.dp_tables.specs.Ready.{AreFramesWith, IsSupply}
 use Rattle.dp_history.specs.declared.item.HistoryItem.{HistoryItem}
 use Rattle.dp_history.specs.Items.{commands_in, entry_in, IsIn}
 use Rattle.dp_history.specs.Users.{mark}
-use Rattle.dp_tables.specs.Tables.{Seen, AreOf, start_of, stream_in}
+use Rattle.dp_history.proofs.MadeLemmas.{made-on}
 use Rattle.dp_history.proofs.Ranges.{filter-range_same}
-use Rattle.dp_tables.proofs.TableLemmas.{present-marked, sent-in, length-commands, live-length}
-use Rattle.dp_tables.proofs.TableLemmas.{live-more}
+use Rattle.dp_commit.specs.declared.supply.Supply.{Supply}
+use Rattle.dp_commit.specs.declared.supply.Supply.TheVariants.{Entries, Opens}
+use Rattle.dp_commit.specs.Placed.{AreFramesWith, IsSupply}
+use Rattle.dp_commit.specs.Sending.{start_of, stream_in}
+use Rattle.dp_commit.proofs.SendingLemmas.{sent-in, length-commands}
+use Rattle.dp_commit.proofs.PlacedLemmas.{live-more}
+use Rattle.dp_tables.specs.Opened.{with_rest}
+use Rattle.dp_tables.specs.Tables.{Seen, AreOf}
+use Rattle.dp_tables.proofs.TableLemmas.{present-marked, live-length}
 
 -- ---- limits
 
@@ -162,7 +161,7 @@ module _ (s : State) (t : Seen) (are : AreOf s t) where
       ∙ length-commands t.journal t.parts are.reset.said)
 
   -- what is added makes up the opening
-  pub opens-so : (metas : List Meta) (next count : ℕ) → metas ≡ carried s.live present
+  opens-so : (metas : List Meta) (next count : ℕ) → metas ≡ carried s.live present
       → next ≡ epoch_of s + 1
       → count ≡ length present + length metas + length t.parts + length kept
       → (((([] ++ server_entry (ResetMark next count) ∷ [])
@@ -184,8 +183,36 @@ module _ (s : State) (t : Seen) (are : AreOf s t) where
       ∙ ap (λ users. opening (epoch_of s + 1) s.live users commands kept) present-is
       ∙ ap (λ list. opening (epoch_of s + 1) s.live (present_users s) list kept) (sym commands-sent)
 
+  -- what is added after some entries
+  pub rest-is : (first : List Entry) (metas : List Meta) (list : List Entry) → list ≡ kept
+      → (((first ++ filter_map (last_join s.live) present) ++ map server_entry metas)
+      ++ map command_entry (commands_in t.journal t.parts)) ++ list
+      ≡ with_rest s first metas
+  rest-is first metas list is =
+      ap (λ users. (((first ++ filter_map (last_join s.live) users) ++ map server_entry metas)
+      ++ map command_entry (commands_in t.journal t.parts)) ++ list) present-is
+      ∙ ap (λ commands. (((first ++ filter_map (last_join s.live) (present_users s))
+      ++ map server_entry metas) ++ map command_entry commands) ++ list) (sym commands-sent)
+      ∙ ap (λ entries. (((first ++ filter_map (last_join s.live) (present_users s))
+      ++ map server_entry metas) ++ map command_entry (sent_commands s.stream)) ++ entries) is
+
+  -- with its mark that makes up the opening
+  pub opens-whole : (users next count : ℕ) (metas : List Meta) (first : Entry)
+      → users ≡ length (present_users s) → metas ≡ carried s.live (present_users s)
+      → next ≡ epoch_of s + 1 → count ≡ users + length metas + length t.parts + length kept
+      → first ≡ server_entry (ResetMark next count)
+      → with_rest s (first ∷ []) metas
+      ≡ opening (epoch_of s + 1) s.live (present_users s) (sent_commands s.stream) kept
+  opens-whole users next count metas first users_are metas_are next_is count_is first_is =
+      sym (rest-is (first ∷ []) metas kept refl)
+      ∙ ap (λ top. (((([] ++ top ∷ []) ++ filter_map (last_join s.live) present)
+      ++ map server_entry metas) ++ map command_entry (commands_in t.journal t.parts)) ++ kept)
+      first_is
+      ∙ opens-so metas next count (metas_are ∙ ap (carried s.live) (sym present-is)) next_is
+      (omega (arith, count_is, users_are, ap length present-is))
+
   -- it has few entries
-  pub count-fits : ((epoch : ℕ) (history : List Entry) (users : List ℕ) (commands : List Draw)
+  count-fits : ((epoch : ℕ) (history : List Entry) (users : List ℕ) (commands : List Draw)
       (kept : List Entry) → length users ≤ 254 → length commands ≤ part_limit
       → length (opening epoch history users commands kept) ≤ opening_limit + length kept)
       → (metas : List Meta)
@@ -199,6 +226,20 @@ module _ (s : State) (t : Seen) (are : AreOf s t) where
             (omega (arith, length-commands t.journal t.parts are.reset.said, are.reset.many)),
         rest-length,
         ap length metas_are,
+      )
+
+  pub after-fits : ((epoch : ℕ) (history : List Entry) (users : List ℕ) (commands : List Draw)
+      (kept : List Entry) → length users ≤ 254 → length commands ≤ part_limit
+      → length (opening epoch history users commands kept) ≤ opening_limit + length kept)
+      → (users : ℕ) (metas : List Meta) → users ≡ length (present_users s)
+      → metas ≡ carried s.live (present_users s)
+      → users + length metas + length t.parts + length kept < opening_limit + length kept
+  after-fits short users metas users_are metas_are =
+      omega (
+        arith,
+        count-fits short metas (metas_are ∙ ap (carried s.live) (sym present-is)),
+        users_are,
+        ap length present-is,
       )
 
   abbrev passing : List HistoryItem → List Entry

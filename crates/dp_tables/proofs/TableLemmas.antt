@@ -1,492 +1,66 @@
 -- When tables are those of a state.
-use Rattle.std.proofs.Common.{◌≡◌, ℕ, zero, suc, ◌+◌, ◌-◌, ◌*◌, ◌<◌, ◌≤◌, ◌==◌, Bool, true, false}
-use Rattle.std.proofs.Common.{cond, not}
-use Rattle.std.proofs.Common.{nat_lt, nat_le, if◌then◌else◌, is_some, unwrap_or}
-use Rattle.std.proofs.Common.{List, [], ◌∷◌, ◌++◌, length, set, map, All, Option, None, Some}
-use Rattle.std.proofs.Common.{append_assoc, refl, sym, ap, subst, ◌∙◌, ⊎_elim, arith, length-append}
+use Rattle.std.proofs.Common.{◌≡◌, ℕ, ◌+◌, ◌-◌, ◌*◌, ◌<◌, ◌≤◌, Bool, true, false, cond, not, nat_lt}
+use Rattle.std.proofs.Common.{nat_le, if◌then◌else◌, is_some, List, [], ◌∷◌, ◌++◌, length, set, All}
+use Rattle.std.proofs.Common.{Option, None, Some, refl, sym, ap, subst, ◌∙◌, ⊎_elim, arith}
+use Rattle.std.proofs.Common.{length-append}
 use Rattle.std.specs.Prelude.{slice_index_or, slice_set, vec_len, vec_capacity}
-use Rattle.std.specs.List.{slice_get, cons_option, sum_by}
-use Rattle.std.specs.Option.{option_map, option_map_or}
-use Rattle.std.proofs.lemmas.List.{map-append, length-map}
-use Rattle.std.proofs.lemmas.List.Elements.{All-head, All-tail, All-append, All-cons, All-nil}
-use Rattle.std.proofs.lemmas.List.Elements.{All-push, All-weaker, filter_map-append}
-use Rattle.std.proofs.Math.ListN.{length-set, replicate}
-use Rattle.std.proofs.lemmas.List.{get_or-replicate, get_or_past, length-replicate}
+use Rattle.std.specs.List.{slice_get}
+use Rattle.std.specs.Option.{option_map_or}
+use Rattle.std.proofs.lemmas.List.{length-map, get_or-replicate, get_or_past, length-replicate}
 use Rattle.std.proofs.lemmas.List.{get_or-set_same, get_or-set_other}
+use Rattle.std.proofs.lemmas.List.Elements.{All-nil, All-push}
+use Rattle.std.proofs.Math.ListN.{length-set, replicate}
 use Rattle.std.proofs.lemmas.List.Sums.{sum_by_push}
-use Rattle.std.proofs.lemmas.Bool.{cases_lt, cases_eq, ltb-true, leb-true, and_parts}
-use Rattle.std.proofs.lemmas.Bool.{false≢true}
-use Rattle.dp_msg_draw.specs.declared.draw.Draw.{Draw}
+use Rattle.std.proofs.lemmas.Bool.{cases_lt, cases_eq, ltb-true, leb-true, and_parts, false≢true}
+use Rattle.dp_lists.proofs.Numbered.{number-found}
 use Rattle.dp_msg_meta.specs.declared.message.Meta.TheVariants.{Join}
 use Rattle.dp_messages.specs.declared.message.Msg.{Msg}
-use Rattle.dp_messages.specs.declared.message.Msg.TheVariants as msg
 use Rattle.dp_messages.specs.Messages.{payload_of}
 use Rattle.dp_messages.specs.declared.message.Entry.{Entry}
 use Rattle.dp_acl.specs.LookBack.{lists}
 use Rattle.dp_acl.specs.Table.{Kept, StandsFor}
-use Rattle.dp_acl.specs.Opening.{command_entry, last_join, part_limit}
-use Rattle.dp_acl.specs.Opening.{opening_limit}
+use Rattle.dp_acl.specs.Opening.{last_join, opening_limit}
 use Rattle.dp_epochs.specs.declared.connection.Connection.{Connection}
 use Rattle.dp_epochs.specs.declared.event.Event.{Event}
-use Rattle.dp_epochs.specs.declared.event.Event.TheVariants as event
-use Rattle.dp_history.specs.declared.item.HistoryItem.{HistoryItem}
-use Rattle.dp_history.specs.declared.item.HistoryItem.TheVariants as item
-use Rattle.dp_tables.specs.declared.ready.Supply.{Supply}
-use Rattle.dp_tables.specs.declared.ready.Supply.TheVariants.{Entries, Opens}
-use Rattle.dp_epochs.specs.declared.connection.Ending.TheVariants as ending
-use Rattle.dp_epochs.specs.declared.connection.Place.{Place}
-use Rattle.dp_epochs.specs.declared.decision.Decision.TheVariants as decision
 use Rattle.dp_epochs.specs.declared.effect.Effect.{Effect}
-use Rattle.dp_epochs.specs.declared.effect.Effect.TheVariants.{TakesUp, Placed, Joined, Left, Began}
-use Rattle.dp_epochs.specs.declared.effect.Effect.TheVariants.{Added, Dropped, Reopened}
-use Rattle.dp_epochs.specs.Effects.{own_message, made, entries_of, ended_after, live_after}
-use Rattle.dp_epochs.specs.Effects.{connections_at, connections_after, stream_after, IsReset}
-use Rattle.dp_epochs.specs.Effects.{FitsReset, IsJoin, IsEffect, EffectsAreMade}
-use Rattle.dp_epochs.proofs.EffectLemmas.{entries-few}
-use Rattle.dp_epochs.proofs.OpenConnections.{open_is_found}
+use Rattle.dp_epochs.specs.declared.effect.Effect.TheVariants.{TakesUp, Joined, Left}
+use Rattle.dp_epochs.specs.Effects.{made, live_after, connections_at, connections_after, IsJoin}
+use Rattle.dp_epochs.specs.Effects.{IsEffect, EffectsAreMade}
 use Rattle.dp_epochs.specs.Connections.{is_open}
-use Rattle.dp_epochs.specs.State.{State, Stream, first_state, is_present, present_users, is_name}
-use Rattle.dp_epochs.specs.State.{free_id, entry_of, epoch_of, after_shut, after_event, acted}
-use Rattle.dp_epochs.specs.State.{first_stream, place_in, with_part, part_bytes}
-use Rattle.dp_epochs.specs.State.{reset_byte_limit}
+use Rattle.dp_epochs.specs.State.{State, first_state, is_present, present_users, is_name, free_id}
+use Rattle.dp_epochs.specs.State.{entry_of, epoch_of, after_shut, after_event, acted}
 use Rattle.dp_epochs.specs.State.{history_of, here, new_connection, open_connection, open_in}
-use Rattle.dp_epochs.specs.State.{with_connection, stream_without}
+use Rattle.dp_epochs.specs.State.{with_connection}
 use Rattle.dp_epochs.specs.declared.event.ShutAt.{ShutAt}
-use Rattle.dp_tables.specs.declared.tables.Tables.TheInside.{Inside}
 use Rattle.dp_epochs.specs.Rows.{row_of, row_bytes, event_limit, byte_limit}
 use Rattle.dp_epochs.specs.Past.{Past, state_after, state_of, kept, refused}
 use Rattle.dp_epochs.specs.Laws.{ShutBefore, shut_by}
+use Rattle.dp_epochs.proofs.OpenConnections.{open_is_found}
 use Rattle.dp_history.specs.Made.{AreMadeOf}
 use Rattle.dp_history.specs.declared.opening.Opening.{Opening}
 use Rattle.dp_history.specs.Openings.{Holds}
-use Rattle.dp_tables.specs.SessionLog.{SessionLog, state_in}
-use Rattle.dp_history.specs.Items.{message_of, IsSay, part_of, join_of, entry_in, IsIn}
-use Rattle.dp_history.specs.Users.{mark}
-use Rattle.dp_history.specs.Items.{IsPart, commands_in}
-use Rattle.dp_tables.specs.Tables.{stream_in, IsResetIn}
-use Rattle.dp_history.specs.Users.{IsJoinedBy, AreJoined}
-use Rattle.dp_tables.specs.Tables.{is_holder, MarksHolders, Seen, AreOf}
-use Rattle.dp_tables.specs.Inside.{is_ready, ledger_of, seen, AreTables}
-use Rattle.dp_tables.specs.Ready.{own_entries, own_items, SaysOwn, opens_epoch, supplied, IsSupply}
-use Rattle.dp_tables.specs.Ready.{unboxed, server_items}
-use Rattle.std.specs.Global.{Box}
-use Rattle.dp_tables.specs.Ready.{items_after, IsWithSupply, epoch_with, marks_after}
-use Rattle.dp_tables.specs.Ready.{opens_after, quiet_after, closed_in, unmarked, is_sender}
-use Rattle.dp_tables.specs.Ready.{owner_after, next_place, parts_after, bytes_after, MayKeep}
-use Rattle.dp_lists.proofs.Numbered.{number-found}
+use Rattle.dp_history.specs.Items.{join_of, entry_in, IsPart}
+use Rattle.dp_history.specs.Users.{mark, IsJoinedBy, AreJoined}
 use Rattle.dp_history.proofs.Ranges.{lists-user, find_user-passes}
-use Rattle.dp_tables.proofs.Holders.{any-marked, mark-set_same, mark-set_other, marks-adds}
-use Rattle.dp_tables.proofs.Holders.{marks-becomes}
-
--- ---- entries
-
--- an event that was journalled stands where it stood
-stays_there : (journal more : List Event) (k : ℕ) → is_some (slice_get journal k) ≡ true
-    → slice_get (journal ++ more) k ≡ slice_get journal k
-stays_there [] more k there = cc
-stays_there (e ∷ journal) more zero there = refl
-stays_there (e ∷ journal) more (suc k) there = stays_there journal more k there
-
-say-there : (o : Option Event) → IsSay o → is_some o ≡ true
-say-there None say = absurd say
-say-there (Some e) say = refl
-
-join-there : (user : ℕ) (o : Option Event) → is_some (join_of user o) ≡ true → is_some o ≡ true
-join-there user None some = some
-join-there user (Some e) some = refl
-
-part-there : (o : Option Event) → is_some (part_of o) ≡ true → is_some o ≡ true
-part-there None some = some
-part-there (Some e) some = refl
-
--- the event after a journal
-last_there : (journal : List Event) (e : Event) → slice_get (journal ++ e ∷ []) (length journal)
-    ≡ Some e
-last_there [] e = refl
-last_there (x ∷ journal) e = last_there journal e
-
--- an entry stays the same after more events
-entry-later : (journal more : List Event) (i : HistoryItem) → IsIn journal i
-    → (entry_in (journal ++ more) i ≡ entry_in journal i) × IsIn (journal ++ more) i
-entry-later journal more (item.Said k user) say =
-    let e = stays_there journal more k (say-there (slice_get journal k) say) in
-    (ap (λ o. record { user = user; msg = message_of o }) e, subst IsSay (sym e) say)
-entry-later journal more (item.Joined k user) some =
-    let e = stays_there journal more k (join-there user (slice_get journal k) some) in (
-      ap (λ o. unwrap_or (join_of user o) (entry_of user msg.Point)) e,
-      subst (λ o. is_some (join_of user o) ≡ true) (sym e) some,
-    )
-entry-later journal more (item.Command k) some =
-    let e = stays_there journal more k (part-there (slice_get journal k) some) in (
-      ap (λ o. option_map_or command_entry (part_of o) (entry_of 0 msg.Point)) e,
-      subst (λ o. is_some (part_of o) ≡ true) (sym e) some,
-    )
-entry-later journal more (item.Server entry) say = (refl, tt)
-
--- entries stay the same after more events
-entries-later : (journal more : List Event) (live : List HistoryItem) → All (IsIn journal) live
-    → map (entry_in (journal ++ more)) live ≡ map (entry_in journal) live
-entries-later journal more [] said = refl
-entries-later journal more (i ∷ live) said =
-    ap (λ x. x ∷ map (entry_in (journal ++ more)) live)
-    (entry-later journal more i (All-head (IsIn journal) i live said)).0
-    ∙ ap (λ xs. entry_in journal i ∷ xs)
-    (entries-later journal more live (All-tail (IsIn journal) i live said))
-
--- entries of the server's own are themselves
-server_kept : (journal : List Event) (entry : Option (Box Entry))
-    → (map (entry_in journal) (server_items entry) ≡ unboxed entry)
-    × All (IsIn journal) (server_items entry)
-server_kept journal None = (refl, All-nil (IsIn journal))
-server_kept journal (Some e) =
-    (refl, All-cons (IsIn journal) (item.Server e) [] tt (All-nil (IsIn journal)))
-
-own_entries_kept : (journal : List Event) (first second : Option (Box Entry))
-    → (map (entry_in journal) (server_items first ++ server_items second)
-    ≡ unboxed first ++ unboxed second)
-    × All (IsIn journal) (server_items first ++ server_items second)
-own_entries_kept journal first second =
-    let a = server_kept journal first in
-    let b = server_kept journal second in (
-      map-append (entry_in journal) (server_items first) (server_items second)
-          ∙ ap (λ xs. xs ++ map (entry_in journal) (server_items second)) a.0
-          ∙ ap (λ xs. unboxed first ++ xs) b.0,
-      All-append (IsIn journal) (server_items first) (server_items second) a.1 b.1,
-    )
-
-pub own-few : (e : Event) (effect : Effect) → length (own_entries e effect) ≤ 1
-own-few e (Placed conn c) = omega arith
-own-few e effect = omega arith
-
-pub own-alike : (n : ℕ) (e : Event) (effect : Effect)
-    → length (own_items n effect) ≡ length (own_entries e effect)
-own-alike n e (Placed conn c) = refl
-own-alike n e effect = refl
-
--- what the event says is kept so, if it is placed
-own-placed : (journal : List Event) (e : Event) (effect : Effect) → SaysOwn e effect
-    → (map (entry_in (journal ++ e ∷ [])) (own_items (length journal) effect)
-    ≡ own_entries e effect)
-    × All (IsIn (journal ++ e ∷ [])) (own_items (length journal) effect)
-own-placed journal (event.Say conn m) (Placed n c) says =
-    let e = last_there journal (event.Say conn m) in
-    let J = journal ++ event.Say conn m ∷ [] in (
-      ap (λ o. record { user = c.user; msg = message_of o } ∷ []) e,
-      All-cons (IsIn J) (item.Said (length journal) c.user) [] (subst IsSay (sym e) tt)
-          (All-nil (IsIn J)),
-    )
-own-placed journal (event.Open name registered) (Placed n c) says = absurd says
-own-placed journal (event.Close conn) (Placed n c) says = absurd says
-own-placed journal e effect says = (refl, All-nil (IsIn (journal ++ e ∷ [])))
-
--- if no epoch opens, entries are placed after the live history
-pub live-more : (s : State) (e : Event) (effect : Effect) → opens_epoch effect ≡ false
-    → (live_after s e effect ≡ s.live ++ entries_of e effect) × (ended_after s effect ≡ s.ended)
-live-more s e (Reopened conn c) stays = cc
-live-more s e effect stays = (refl, refl)
-
--- if one opens, there is one more
-ended-more : (s : State) (effect : Effect) → opens_epoch effect ≡ true
-    → length (ended_after s effect) ≡ length s.ended + 1
-ended-more s (Reopened conn c) opens = length-append s.ended (s.live ∷ [])
-ended-more s effect opens = cc
-
--- a message is placed only by a Say
-pub says-own : (s : State) (e : Event) (effect : Effect) → IsEffect s e effect → SaysOwn e effect
-says-own s e (Placed conn c) cause = subst (λ x. IsSay (Some x)) (sym cause.0.came) tt
-says-own s e effect cause = tt
-
-module _ (journal : List Event) (s : State) (e : Event) (effect : Effect)
-    (cause : IsEffect s e effect) where
-  abbrev J : List Event
-  J = journal ++ e ∷ []
-
-  -- the live history as it is kept after the event
-  items-kept : (live : List HistoryItem) (supply : Supply) → IsSupply journal s e effect supply
-      → map (entry_in journal) live ≡ s.live → All (IsIn journal) live
-      → (map (entry_in J) (items_after (own_items (length journal) effect) supply live)
-      ≡ live_after s e effect)
-      × All (IsIn J) (items_after (own_items (length journal) effect) supply live)
-  items-kept live (Entries first second) supply is said =
-      let own = own-placed journal e effect (says-own s e effect cause) in
-      let list = server_items first ++ server_items second in
-      let ahead = own_entries_kept J first second in
-      let more = own_items (length journal) effect ++ list in (
-        map-append (entry_in J) live more
-            ∙ ap (λ xs. xs ++ map (entry_in J) more)
-            (entries-later journal (e ∷ []) live said ∙ is)
-            ∙ ap (λ xs. s.live ++ xs)
-            (map-append (entry_in J) (own_items (length journal) effect) list
-            ∙ ap (λ xs. xs ++ map (entry_in J) list) own.0
-            ∙ ap (λ xs. own_entries e effect ++ xs) ahead.0
-            ∙ supply.1)
-            ∙ sym (live-more s e effect supply.0).0,
-        All-append (IsIn J) live more
-            (All-weaker (IsIn journal) (IsIn J) (λ i h. (entry-later journal (e ∷ []) i h).1) live
-            said)
-            (All-append (IsIn J) (own_items (length journal) effect) list own.1 ahead.1),
-      )
-  items-kept live (Opens opening) supply is said = (
-    entries-later journal (e ∷ []) opening.live.items supply.1.said ∙ supply.1.entries,
-    All-weaker (IsIn journal) (IsIn J)
-        (λ i h. (entry-later journal (e ∷ []) i h).1) opening.live.items supply.1.said,
-  )
-
-  epoch-kept : (supply : Supply) (epoch : ℕ) → IsSupply journal s e effect supply
-      → epoch ≡ epoch_of s → epoch_with supply epoch ≡ length (ended_after s effect)
-  epoch-kept (Entries first second) epoch supply is =
-      is ∙ sym (ap length (live-more s e effect supply.0).1)
-  epoch-kept (Opens opening) epoch supply is =
-      omega (arith, is, ended-more s effect supply.0)
-
-  -- the rights that were noted with the event's own entry are, with the supply, those after it
-  pub next-is : (supply : Supply) → IsSupply journal s e effect supply
-      → IsWithSupply journal supply (s.live ++ own_entries e effect) (live_after s e effect)
-  next-is (Entries first second) supply =
-      (live-more s e effect supply.0).0
-      ∙ ap (λ xs. s.live ++ xs) (sym supply.1)
-      ∙ sym (append_assoc s.live (own_entries e effect) (unboxed first ++ unboxed second))
-  next-is (Opens opening) supply = supply.1
-
-  -- the event places few entries
-  pub supply-few : (supply : Supply) → IsSupply journal s e effect supply
-      → length (own_entries e effect) + length (supplied supply) ≤ 2
-  supply-few (Entries first second) supply =
-      let list = unboxed first ++ unboxed second in
-      omega (
-        arith,
-        length-append (own_entries e effect) list,
-        ap length supply.1,
-        entries-few e effect,
-      )
-  supply-few (Opens opening) supply = omega (arith, own-few e effect)
-
--- ---- a reset that is being sent
-
-commands-later : (journal more : List Event) (parts : List ℕ) → All (IsPart journal) parts
-    → commands_in (journal ++ more) parts ≡ commands_in journal parts
-commands-later journal more [] said = refl
-commands-later journal more (k ∷ parts) said =
-    let some = All-head (IsPart journal) k parts said in
-    let e = stays_there journal more k (part-there (slice_get journal k) some) in
-    ap (λ o. cons_option (part_of o) (commands_in (journal ++ more) parts)) e
-    ∙ ap (cons_option (part_of (slice_get journal k)))
-    (commands-later journal more parts (All-tail (IsPart journal) k parts said))
-
-part-later : (journal more : List Event) (k : ℕ) → IsPart journal k → IsPart (journal ++ more) k
-part-later journal more k some =
-    subst (λ o. is_some (part_of o) ≡ true)
-    (sym (stays_there journal more k (part-there (slice_get journal k) some))) some
-
-one-more : {X : Type 0} (o : Option X) (xs : List X) → is_some o ≡ true
-    → length (cons_option o xs) ≡ suc (length xs)
-one-more None xs some = cc
-one-more (Some x) xs some = refl
-
-pub length-commands : (journal : List Event) (parts : List ℕ) → All (IsPart journal) parts
-    → length (commands_in journal parts) ≡ length parts
-length-commands journal [] said = refl
-length-commands journal (k ∷ parts) said =
-    one-more (part_of (slice_get journal k)) (commands_in journal parts)
-    (All-head (IsPart journal) k parts said)
-    ∙ ap suc (length-commands journal parts (All-tail (IsPart journal) k parts said))
-
-pub sent-in : (owner place : Option ℕ) (commands : List Draw) (stream : Stream)
-    → option_map (λ conn. record { owner = conn; commands = commands; place = place }) owner
-    ≡ Some stream
-    → stream.commands ≡ commands
-sent-in None place commands stream is = cc
-sent-in (Some conn) place commands stream is =
-    let same : ◌≡◌ {A = Stream} (record { owner = conn; commands = commands; place = place }) stream
-    =
-    cc in
-    sym (ap (λ x. x.commands) same)
-
-grown-in : (owner place : Option ℕ) (commands : List Draw) (command : Draw)
-    → option_map (λ conn. record {
-      owner = conn;
-      commands = commands ++ command ∷ [];
-      place = place;
-    }) owner
-    ≡ option_map (with_part (msg.Part command))
-    (option_map (λ conn. record { owner = conn; commands = commands; place = place }) owner)
-grown-in None place commands command = refl
-grown-in (Some conn) place commands command = refl
-
--- the size is that of the event's payload, if it says a part
-abbrev PartSize : Event → ℕ → Type 0
-PartSize e size = (conn : ℕ) (command : Draw) → e ≡ event.Say conn (msg.Part command)
-    → size ≡ part_bytes command
-
-module _ (sent : Option Stream) (journal : List Event) (owner place : Option ℕ) (parts : List ℕ)
-    (bytes : ℕ) (h : IsResetIn sent journal owner place parts bytes) (e : Event) where
-  abbrev later : List Event
-  later = journal ++ e ∷ []
-
-  commands-after : commands_in later parts ≡ commands_in journal parts
-  commands-after = commands-later journal (e ∷ []) parts h.said
-
-  parts-later : All (IsPart later) parts
-  parts-later = All-weaker (IsPart journal) (IsPart later)
-      (λ k some. part-later journal (e ∷ []) k some) parts h.said
-
-  -- an event that has nothing to do with it
-  reset-stays : IsResetIn sent later owner place parts bytes
-  reset-stays = record {
-    stream = ap (λ commands. option_map (λ conn. record {
-      owner = conn;
-      commands = commands;
-      place = place;
-    }) owner) commands-after
-        ∙ h.stream;
-    said = parts-later;
-    size = h.size ∙ ap (sum_by part_bytes) (sym commands-after);
-    many = h.many;
-    within = h.within;
-    none = h.none;
-  }
-
-  reset-begins : (conn : ℕ) (named : Option ℕ)
-      → IsResetIn (Some (first_stream conn named)) later (Some conn) named [] 0
-  reset-begins conn named = record {
-    stream = refl;
-    said = All-nil (IsPart later);
-    size = refl;
-    many = omega arith;
-    within = omega arith;
-    none = λ no_one. refl;
-  }
-
-  reset-ends : IsResetIn None later None place [] 0
-  reset-ends = record {
-    stream = refl;
-    said = All-nil (IsPart later);
-    size = refl;
-    many = omega arith;
-    within = omega arith;
-    none = λ no_one. refl;
-  }
-
-  -- one more part
-  reset-grows : (s : State) (conn : ℕ) (c : Connection) (command : Draw) → s.stream ≡ sent
-      → IsReset s e conn c (msg.Part command) decision.AddPart → FitsReset s conn command
-      → (size : ℕ) → PartSize e size
-      → IsResetIn (option_map (with_part (own_message e)) sent) later owner place
-      (parts ++ length journal ∷ []) (bytes + size)
-  reset-grows s conn c command is reset fitting size size_of =
-      let commands = commands_in journal parts in
-      let came : e ≡ event.Say conn (msg.Part command) =
-      reset.said.came ∙ ap (event.Say conn) reset.is in
-      let size_is : size ≡ part_bytes command = size_of conn command came in
-      let new : slice_get later (length journal) ≡ Some e = last_there journal e in
-      let part : part_of (slice_get later (length journal)) ≡ Some command =
-      ap part_of new ∙ ap (λ x. part_of (Some x)) came in
-      let all : commands_in later (parts ++ length journal ∷ []) ≡ commands ++ command ∷ [] =
-      filter_map-append (λ k. part_of (slice_get later k)) parts (length journal ∷ [])
-      ∙ ap (λ xs. xs ++ commands_in later (length journal ∷ [])) commands-after
-      ∙ ap (λ o. commands ++ cons_option o []) part in
-      let same : fitting.stream.commands ≡ commands =
-      sent-in owner place commands fitting.stream (h.stream ∙ sym is ∙ fitting.sent) in
-      let room = and_parts (nat_lt (length fitting.stream.commands) part_limit)
-      (nat_le (sum_by part_bytes fitting.stream.commands + part_bytes command)
-      reset_byte_limit) fitting.fits in
-      let count = ltb-true (length fitting.stream.commands) part_limit room.0 in
-      let fits = leb-true (sum_by part_bytes fitting.stream.commands + part_bytes command)
-      reset_byte_limit room.1 in
-      record {
-        stream = ap (λ list. option_map (λ conn. record {
-          owner = conn;
-          commands = list;
-          place = place;
-        }) owner) all
-            ∙ grown-in owner place commands command
-            ∙ ap (option_map (with_part (msg.Part command))) h.stream
-            ∙ ap (λ x. option_map (with_part x) sent) (sym reset.is);
-        said = All-push (IsPart later) parts (length journal) parts-later
-            (ap is_some part);
-        size = ap (λ n. n + size) h.size
-            ∙ ap (λ n. sum_by part_bytes commands + n) size_is
-            ∙ sym (sum_by_push part_bytes commands command)
-            ∙ ap (sum_by part_bytes) (sym all);
-        many = omega (
-          arith,
-          count,
-          ap length same,
-          length-commands journal parts h.said,
-          length-append parts (length journal ∷ []),
-        );
-        within = omega (arith, fits, ap (sum_by part_bytes) same, h.size, size_is);
-        none = λ no_one.
-            let sent_none : None ≡ sent = ap (λ o. stream_in journal o place parts) (sym no_one)
-            ∙ h.stream in
-            cc (fitting.sent);
-      }
-
--- a connection leaves
-reset-left : (sent : Option Stream) (journal : List Event) (owner place : Option ℕ)
-    (parts : List ℕ) (bytes : ℕ) → IsResetIn sent journal owner place parts bytes → (e : Event)
-    (conn : ℕ)
-    → IsResetIn (stream_without conn sent) (journal ++ e ∷ [])
-    (if is_sender conn owner then None else owner) place
-    (if is_sender conn owner then [] else parts) (if is_sender conn owner then 0 else bytes)
-reset-left sent journal None place parts bytes h e conn =
-    subst (λ o. IsResetIn o (journal ++ e ∷ []) None place parts bytes)
-    (sym h.stream ∙ ap (stream_without conn) h.stream)
-    (reset-stays sent journal None place parts bytes h e)
-reset-left sent journal (Some owner) place parts bytes h e conn =
-    subst (λ o. IsResetIn (stream_without conn o) (journal ++ e ∷ [])
-    (if owner == conn then None else Some owner) place (if owner == conn then [] else parts)
-    (if owner == conn then 0 else bytes)) h.stream
-    (by_sender (owner == conn))
-  where
-    stream : Stream
-    stream = record { owner = owner; commands = commands_in journal parts; place = place }
-
-    by_sender : (b : Bool) → IsResetIn (if b then None else Some stream) (journal ++ e ∷ [])
-        (if b then None else Some owner) place (if b then [] else parts)
-        (if b then 0 else bytes)
-    by_sender true = reset-ends sent journal (Some owner) place parts bytes h e
-    by_sender false =
-        subst (λ o. IsResetIn o (journal ++ e ∷ []) (Some owner) place parts bytes) (sym h.stream)
-        (reset-stays sent journal (Some owner) place parts bytes h e)
-
--- after any event
-reset-kept : (s : State) (journal : List Event) (owner place : Option ℕ) (parts : List ℕ)
-    (bytes : ℕ) → IsResetIn s.stream journal owner place parts bytes → (e : Event)
-    (effect : Effect) → IsEffect s e effect → (size : ℕ) → PartSize e size
-    → IsResetIn (stream_after e s.stream effect) (journal ++ e ∷ []) (owner_after effect owner)
-    (next_place e effect place) (parts_after (length journal) effect owner parts)
-    (bytes_after size effect owner bytes)
-reset-kept s journal owner place parts bytes h e (Left conn c next) cause size size_of =
-    reset-left s.stream journal owner place parts bytes h e conn
-reset-kept s journal owner place parts bytes h e (Began conn c) cause size size_of =
-    reset-begins s.stream journal owner place parts bytes h e conn (place_in (own_message e))
-reset-kept s journal owner place parts bytes h e (Added conn c) cause size size_of =
-    reset-grows s.stream journal owner place parts bytes h e s conn c cause.0 refl cause.1 cause.2
-    size size_of
-reset-kept s journal owner place parts bytes h e (Dropped conn c) cause size size_of =
-    reset-ends s.stream journal owner place parts bytes h e
-reset-kept s journal owner place parts bytes h e (Reopened conn c) cause size size_of =
-    reset-ends s.stream journal owner place parts bytes h e
-reset-kept s journal owner place parts bytes h e effect cause size size_of =
-    reset-stays s.stream journal owner place parts bytes h e
-
--- an event adds at most one connection
-connections-more : (s : State) (effect : Effect)
-    → length (connections_after s effect) ≤ length s.connections + 1
-connections-more s (TakesUp conn c) =
-    omega (
-      arith,
-      length-set s.connections (conn - 1) (record c { acknowledged = epoch_of s }),
-    )
-connections-more s (Joined user next) =
-    omega (arith, length-append s.connections (new_connection s user ∷ []))
-connections-more s (Left conn c next) =
-    omega (
-      arith,
-      length-set s.connections (conn - 1) (record c { ending = ending.Left (here s) }),
-    )
-connections-more s effect = omega arith
+use Rattle.dp_commit.specs.declared.supply.Supply.{Supply}
+use Rattle.dp_commit.specs.Sending.{IsResetIn, owner_after, next_place, parts_after, bytes_after}
+use Rattle.dp_commit.specs.Marks.{is_holder, MarksHolders, marks_after, opens_after, quiet_after}
+use Rattle.dp_commit.specs.Marks.{closed_in, unmarked}
+use Rattle.dp_commit.specs.Placed.{own_items, IsSupply, items_after, epoch_with}
+use Rattle.dp_commit.proofs.Holders.{any-marked, mark-set_same, mark-set_other, marks-adds}
+use Rattle.dp_commit.proofs.Holders.{marks-becomes}
+use Rattle.dp_commit.proofs.Journals.{stays_there, join-there, last_there}
+use Rattle.dp_commit.proofs.PlacedLemmas.{items-kept, epoch-kept}
+use Rattle.dp_commit.proofs.SendingLemmas.{PartSize, reset-kept}
+use Rattle.dp_commit.proofs.MarksLemmas.{connections-more, flags-after, length-closed}
+use Rattle.dp_tables.specs.declared.tables.Tables.TheInside.{Inside}
+use Rattle.dp_tables.specs.SessionLog.{SessionLog, state_in}
+use Rattle.dp_tables.specs.Tables.{Seen, AreOf}
+use Rattle.dp_tables.specs.Inside.{is_ready, ledger_of, seen, AreTables}
+use Rattle.dp_tables.specs.Ready.{MayKeep}
+use Rattle.dp_messages.specs.declared.message.Msg.TheVariants as msg
+use Rattle.dp_epochs.specs.declared.event.Event.TheVariants as event
+use Rattle.dp_epochs.specs.declared.connection.Ending.TheVariants as ending
 
 -- ---- states
 
@@ -809,25 +383,6 @@ ready-live t ready =
 pub ready-rights : (t : Inside) → is_ready t ≡ true → 2 ≤ t.rights.room
 ready-rights t ready = leb-true 2 t.rights.room (and_parts _ (nat_le 2 t.rights.room) ready).1
 
-flags-after : (place : Place) (effect : Effect) (flags : List Bool) (cs : List Connection)
-    → length flags ≡ length cs
-    → length (quiet_after effect flags) ≡ length (connections_at place cs effect)
-flags-after place (TakesUp conn c) flags cs same = simp length-set same
-flags-after place (Joined user next) flags cs same =
-    omega (
-      arith,
-      length-append flags (false ∷ []),
-      length-append cs (record {
-        user = user;
-        acknowledged = place.epoch;
-        joined = place;
-        ending = ending.Running;
-      } ∷ []),
-      same,
-    )
-flags-after place (Left conn c next) flags cs same = simp length-set same
-flags-after place effect flags cs same = same
-
 -- a past with these events and closings
 past_in : SessionLog → Past
 past_in l = record {
@@ -997,11 +552,6 @@ pub record IsLeftOut (old : Inside) (conn : ℕ) (new : Inside) : Type 0 where
   pub parts : new.parts.items ≡ old.parts.items
   pub part_bytes : new.part_bytes ≡ old.part_bytes
   pub frames : new.frames ≡ old.frames
-
-length-closed : (conn : ℕ) (o : Option Connection) (cs : List Connection)
-    → length (closed_in conn o cs) ≡ length cs
-length-closed conn None cs = refl
-length-closed conn (Some c) cs = length-set cs (conn - 1) (record c { ending = ending.Shut })
 
 live-shut : (s : State) (conn : ℕ) (o : Option Connection)
     → (option_map_or (λ c. with_connection s conn (record c { ending = ending.Shut })) o s).live

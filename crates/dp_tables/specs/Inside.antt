@@ -2,10 +2,11 @@
 use Rattle.std.specs.Prelude.{◌≡◌, ◌+◌, ◌≤◌, ◌&&◌, Bool, nat_lt, nat_le, length, All, vec_len}
 use Rattle.std.specs.Prelude.{vec_capacity}
 use Rattle.dp_epochs.specs.Rows.{row_bytes, event_limit, byte_limit}
-use Rattle.dp_tables.specs.declared.tables.Tables.TheInside.{Inside}
 use Rattle.dp_history.specs.Made.{AreMadeOf}
+use Rattle.dp_commit.specs.Marks.{quiet_of}
+use Rattle.dp_tables.specs.declared.tables.Tables.TheInside.{Inside}
 use Rattle.dp_tables.specs.SessionLog.{SessionLog, state_in}
-use Rattle.dp_tables.specs.Tables.{Seen, AreOf, quiet_of}
+use Rattle.dp_tables.specs.Tables.{Seen, AreOf}
 
 -- memory is ready for any one event
 abbrev pub is_ready : Inside → Bool

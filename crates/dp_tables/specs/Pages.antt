@@ -4,9 +4,9 @@ use Rattle.dp_messages.specs.declared.message.Entry.{Entry}
 use Rattle.dp_epochs.specs.declared.event.Answer.{Answer}
 use Rattle.dp_epochs.specs.declared.event.Answer.TheVariants.{Entries, Gone}
 use Rattle.dp_epochs.specs.Pull.{page}
+use Rattle.dp_history.specs.Frames.{IsShort, frames_of}
 use Rattle.dp_tables.specs.declared.pages.Due.{Due}
 use Rattle.dp_tables.specs.declared.pages.Page.{Page}
-use Rattle.dp_history.specs.Frames.{IsShort, frames_of}
 
 -- the answer of at most `most` entries of what is due of the live history, if something is
 abbrev pub answer_of : List Entry → ℕ → Option Due → Answer
@@ -28,7 +28,7 @@ IsPage answer page old new = (most : ℕ) × AnswersBy (answer most) page old ne
 
 -- the most entries of a page
 abbrev pub page_most : ℕ
-page_most = 1024
+page_most = 16384
 
 -- nothing was put, or a page of few entries that has one frame or few bytes
 abbrev pub IsBounded : Option Page → List ℕ → List ℕ → Type 0

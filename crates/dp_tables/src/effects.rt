@@ -1,66 +1,24 @@
 //! What an event does to a session, and what is to be kept of it, with the memory that it needs.
 
-ghost use Rattle.std.specs.Prelude.{◌≡◌, ℕ, List, Bool, Some, None, option_to_list, false, IfOk};
-ghost use Rattle.std.specs.Prelude.{MatchOption, length};
+ghost use Rattle.std.specs.Prelude.{◌≡◌, ℕ, List, Bool, false, IfOk, MatchOption, length};
 ghost use Rattle.dp_messages.specs.Messages.{payload_of};
-ghost use Rattle.dp_epochs.specs.State.{is_name, next_owner, decided, heard, has_acknowledged};
-ghost use Rattle.dp_epochs.specs.State.{filtered_entry};
-ghost use Rattle.dp_epochs.specs.Effects.{own_message, IsEffect};
+ghost use Rattle.dp_epochs.specs.State.{is_name, decided, heard, has_acknowledged};
+ghost use Rattle.dp_epochs.specs.Effects.{IsEffect};
 ghost use Rattle.dp_epochs.specs.Rows.{has_room, row_of};
-ghost use Rattle.dp_history.specs.Items.{IsSay};
+ghost use Rattle.dp_commit.specs.Placed.{IsSupply};
 ghost use Rattle.dp_tables.specs.SessionLog.{state_in};
-ghost use Rattle.dp_tables.specs.Ready.{IsReady, IsSupply, unboxed};
+ghost use Rattle.dp_tables.specs.Ready.{IsReady};
 
-use crate::ready::{Ready, Supply};
+use crate::ready::Ready;
 use crate::tables::Tables;
 use dp_acl::operators_stay;
+use dp_commit::{Supply, boxed, filtered, owner_entry};
 use dp_epochs::{Connection, Decision, Effect, Event, Reply, decisions_have_effects, make_row};
 use dp_history::{first_operator, free_id, join_entry, name_text, next_operator};
 use dp_keeper::{Row, RowBytes};
 use dp_messages::{Entry, Msg};
-use dp_msg_meta::{Control, Ids, Meta};
-use std::alloc::{AllocError, Global};
-
-/// The entry in place of what the event says: of what kind that was.
-fn filtered(event: &Event, user: u8) -> Entry
-    requires { IsSay (Some event.now) }
-    ensures { result ≡ filtered_entry user (own_message event.now) }
-{
-    match event {
-        Event::Say { msg, .. } => Entry {
-            user,
-            msg: Msg::Meta(Meta::Filtered { kind: msg.kind() }),
-        },
-        _ => unreachable!(),
-    }
-}
-
-/// The entry, if there is one, in a box.
-fn boxed(alloc: Global, entry: Option<Entry>) -> Result<Option<Box<Entry>>, AllocError>
-    ensures { IfOk result (λ found. unboxed found ≡ option_to_list entry) }
-{
-    Ok(match entry {
-        Some(entry) => Some(Box::new(alloc, entry)?),
-        None => None,
-    })
-}
-
-/// The entry that makes the user the only operator, if there is one, in a box.
-fn owner_entry(alloc: Global, user: Option<u8>) -> Result<Option<Box<Entry>>, AllocError>
-    ensures { IfOk result (λ entry. unboxed entry ≡ next_owner user) }
-{
-    let Some(user) = user else {
-        return Ok(None);
-    };
-    let ids = Vec::from_slice(alloc, &[user])?;
-    let entry = Entry {
-        user: 0,
-        msg: Msg::Meta(Meta::Owners {
-            ids: Ids::from_vec(ids),
-        }),
-    };
-    boxed(alloc, Some(entry))
-}
+use dp_msg_meta::{Control, Meta};
+use std::alloc::AllocError;
 
 impl Tables {
     /// Whether the connection has taken up the live epoch.

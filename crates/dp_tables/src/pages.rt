@@ -34,9 +34,9 @@ ghost use Rattle.dp_messages.specs.Messages.{entry_bytes};
 ghost use Rattle.dp_history.specs.Frames.{IsShort, frames_of};
 ghost use Rattle.dp_tables.specs.Pages.{answer_of, IsBounded, IsPage, page_most};
 ghost use Rattle.dp_history.specs.Items.{entry_in, IsIn, IsSay, join_of, message_of, part_of};
-ghost use Rattle.dp_history.specs.Users.{mark};
 
 use crate::tables::Tables;
+use dp_commit::is_flagged;
 use dp_epochs::{Answer, Ending, Entries, Event, Place};
 use dp_history::{copies, put_item};
 use dp_lists::{prefix_of, rest_of};
@@ -45,7 +45,7 @@ use dp_msg_meta::Meta;
 use std::alloc::{AllocError, Global};
 
 /// The most entries of a page.
-const PAGE: usize = 1 << 10;
+const PAGE: usize = 1 << 14;
 
 /// Entries that were put as frames: a number of those of an epoch, from this place on.
 #[derive(Clone, Copy)]
@@ -61,14 +61,6 @@ pub(crate) struct Due {
     pub(crate) epoch: u32,
     pub(crate) at: u32,
     pub(crate) end: usize,
-}
-
-/// Whether the connection of the number, which was given out, is flagged.
-fn is_flagged(quiet: &[bool], conn: u32) -> bool
-    requires { 0 < conn }
-    ensures { result ≡ mark quiet.now (conn - 1) }
-{
-    quiet.get(conn as usize - 1).copied().unwrap_or(false)
 }
 
 impl Tables {

@@ -7,12 +7,12 @@ ghost use Rattle.std.specs.Prelude.{MatchOption};
 ghost use Rattle.dp_epochs.specs.Effects.{IsEffect};
 ghost use Rattle.dp_epochs.specs.Rows.{row_of};
 ghost use Rattle.dp_epochs.specs.Resumed.{MayNotStand, MayStand, NamesGiven};
+ghost use Rattle.dp_commit.specs.Placed.{IsSupply};
 ghost use Rattle.dp_tables.specs.SessionLog.{state_in};
-ghost use Rattle.dp_tables.specs.Ready.{IsSupply};
 ghost use Rattle.dp_tables.specs.Replay.{Replays};
 
-use crate::ready::Supply;
 use crate::tables::Tables;
+use dp_commit::Supply;
 use dp_epochs::{Effect, Event, read_row, rows_spell_events};
 use dp_keeper::Row;
 use std::alloc::AllocError;

@@ -1,9 +1,10 @@
 //! Resets: who may send one, what becomes of its messages, and how it opens the next epoch.
 
-ghost use Rattle.std.specs.Prelude.{◌≡◌, ◌+◌, ◌≤◌, Some, false, is_some, IfOk, All, map, length};
-ghost use Rattle.std.specs.Prelude.{nat_le};
+ghost use Rattle.std.specs.Prelude.{◌≡◌, ◌+◌, ◌^◌, ◌<◌, ◌≤◌, ◌∷◌, [], Some, false, is_some};
+ghost use Rattle.std.specs.Prelude.{IfOk, OnOk, All, map, length, nat_le};
 ghost use Rattle.std.specs.List.{filter};
 ghost use Rattle.std.specs.Option.{option_map_or};
+ghost use Rattle.dp_acl.specs.Carried.{carried};
 ghost use Rattle.dp_acl.specs.Opening.{goes_over, opening, server_entry};
 ghost use Rattle.dp_messages.specs.declared.message.Msg.TheVariants as msg;
 ghost use Rattle.dp_epochs.specs.State.{
@@ -25,10 +26,11 @@ ghost use Rattle.dp_msg_meta.specs.declared.message.Control.TheVariants.{ResetBe
 ghost use Rattle.dp_msg_meta.specs.declared.message.Control.TheVariants.{ResetFrom};
 ghost use Rattle.dp_tables.specs.SessionLog.{state_in};
 ghost use Rattle.dp_history.specs.Items.{entry_in, IsIn};
-ghost use Rattle.dp_tables.specs.Tables.{start_of};
 ghost use Rattle.dp_history.specs.Openings.{Holds};
+ghost use Rattle.dp_tables.specs.Opened.{with_rest};
 
 use crate::tables::Tables;
+use dp_commit::start_of;
 use dp_epochs::{
     Connection, Decision, epochs_are_few, histories_are_short, openings, present_users_rise,
 };
@@ -44,20 +46,6 @@ const PART_LIMIT: usize = 262_144;
 
 /// The most bytes that the payloads of its parts have.
 const BYTE_LIMIT: u64 = 1 << 28;
-
-/// From where on a history, which ends at `end`, is kept by the reset that the connection sends, if
-/// any. The reset names the place.
-pub(crate) fn start_of(owner: Option<u32>, place: Option<u32>, end: usize) -> usize
-    ensures { result ≡ start_of owner place end }
-{
-    match owner {
-        Some(_) => match place {
-            Some(at) => at as usize,
-            None => end,
-        },
-        None => end,
-    }
-}
 
 impl Tables {
     /// Whether a connection other than this one, whose user is present and operator, sends a reset.
@@ -179,6 +167,57 @@ impl Tables {
         rest_of(&self.live, from)
     }
 
+    /// How many users are present, and the messages on rights that go over into the next epoch.
+    fn carry(&self) -> Result<(usize, Vec<Meta>), AllocError>
+        ensures users { IfOk result (λ over.
+            over.0 ≡ length (present_users (state_in self.now))) }
+        ensures metas { IfOk result (λ over. over.1.items
+            ≡ carried (state_in self.now).live (present_users (state_in self.now))) }
+    {
+        present_users_rise();
+        let present = present_ids(self.allocator(), &self.present)?;
+        let metas = self.rights.carry(&present)?;
+        Ok((present.as_slice().len(), metas))
+    }
+
+    /// Fills an opening with this mark, and with what stands after it: the Joins of the present
+    /// users, these messages on rights, the commands of the reset that is being sent, and what it
+    /// keeps, for which memory is taken at once.
+    fn fill(
+        &self,
+        opening: &mut Opening,
+        first: Entry,
+        metas: &[Meta],
+        kept: usize,
+    ) -> Result<(), AllocError>
+        ensures { OnOk result (Holds self.now.journal opening.old []
+            → Holds self.now.journal opening.new
+            (with_rest (state_in self.now) (first ∷ []) metas.now)) }
+    {
+        let items = self.kept_items();
+        opening.add(first)?;
+        opening.add_joins(&self.journal, &self.opens, &self.present)?;
+        opening.add_metas(metas)?;
+        opening.add_commands(&self.parts)?;
+        opening.add_kept(&self.journal, items, kept)?;
+        Ok(())
+    }
+
+    /// How the next epoch opens, with this mark and these messages on rights.
+    fn open_with(&self, first: Entry, metas: &[Meta], kept: usize) -> Result<Opening, AllocError>
+        ensures { IfOk result (λ o. Holds self.now.journal o
+            (with_rest (state_in self.now) (first ∷ []) metas.now)) }
+    {
+        let mut opening = Opening::new(self.allocator())?;
+        match self.fill(&mut opening, first, metas, kept) {
+            Ok(()) => Ok(opening),
+            Err(error) => {
+                drop(opening);
+                Err(error)
+            }
+        }
+    }
+
     /// How the next epoch opens, with the commands of the reset that is being sent and what it
     /// keeps.
     pub(crate) fn open_epoch(&self) -> Result<Opening, AllocError>
@@ -189,22 +228,21 @@ impl Tables {
     {
         histories_are_short();
         openings();
-        present_users_rise();
-        let alloc = self.allocator();
-        let present = present_ids(alloc, &self.present)?;
-        let metas = self.rights.carry(&present)?;
+        let over = self.carry()?;
         let items = self.kept_items();
         let kept = count_kept(&self.journal, items);
-        let carried = present.as_slice().len() + metas.len() + self.parts.len() + kept;
-        drop(present);
-        let mut opening = Opening::new(alloc)?;
-        opening.add(mark(self.next_epoch(), carried as u32))?;
-        opening.add_joins(&self.journal, &self.opens, &self.present)?;
-        opening.add_metas(&metas)?;
-        opening.add_commands(&self.parts)?;
-        opening.add_kept(&self.journal, items, kept)?;
-        Ok(opening)
+        let after = count_after(over.0, over.1.len(), self.parts.len(), kept);
+        let first = mark(self.next_epoch(), after);
+        self.open_with(first, &over.1, kept)
     }
+}
+
+/// How many entries stand after a mark: those on users, on rights, of commands, and those kept.
+fn count_after(users: usize, metas: usize, parts: usize, kept: usize) -> u32
+    requires { users + metas + parts + kept < 2 ^ 32 }
+    ensures { result ≡ users + metas + parts + kept }
+{
+    (users + metas + parts + kept) as u32
 }
 
 /// The mark of an epoch that opens with this number of entries after it.

@@ -1,35 +1,16 @@
 //! What a session keeps.
 
-ghost use Rattle.std.specs.Prelude.{
-  ◌≡◌,
-  false,
-  true,
-  ◌+◌,
-  ◌^◌,
-  ◌≤◌,
-  ◌<◌,
-  ◌&&◌,
-  [],
-  length,
-  nat_lt,
-  nat_le,
-  vec_len,
-  vec_capacity,
-  IfOk,
-  OnOk,
-  List,
-};
-ghost use Rattle.dp_messages.specs.declared.message.Entry.{Entry as Piece};
-ghost use Rattle.dp_acl.specs.Table.{StandsFor};
+ghost use Rattle.std.specs.Prelude.{◌≡◌, true, ◌+◌, ◌&&◌, [], length, nat_lt, nat_le, IfOk, OnOk};
 ghost use Rattle.dp_acl.specs.Permitted.{permitted};
 ghost use Rattle.dp_epochs.specs.Rows.{row_bytes, event_limit, byte_limit};
-ghost use Rattle.dp_epochs.specs.State.{connection_in, connection_of, open_in, open_connection};
+ghost use Rattle.dp_epochs.specs.State.{connection_of, open_connection};
 ghost use Rattle.dp_epochs.specs.State.{next_open, here};
 ghost use Rattle.dp_tables.specs.SessionLog.{state_in};
 
 use crate::resets::mark;
 use dp_acl::Rights;
-use dp_epochs::{Connection, Ending, Event, Place, ShutAt, histories_are_short};
+use dp_commit::{connection, next_open, open_connection, reserve};
+use dp_epochs::{Connection, Event, Place, ShutAt, histories_are_short};
 use dp_history::{HistoryFrames, HistoryItem, Opening};
 use dp_messages::Msg;
 use std::alloc::{AllocError, Global};
@@ -78,77 +59,6 @@ impl Model for Tables {
     ghost view = { ledger_of };
 
     ghost invariant = { AreTables };
-}
-
-/// The connection of a number, if it was given out.
-fn connection(connections: &[Connection], conn: u32) -> Option<Connection>
-    ensures { result ≡ connection_in connections.now conn }
-{
-    if conn == 0 {
-        return None;
-    }
-    connections.get(conn as usize - 1).copied()
-}
-
-/// The connection of a number, if it was given out and is open.
-pub(crate) fn open_connection(connections: &[Connection], conn: u32) -> Option<Connection>
-    ensures { result ≡ open_in connections.now conn }
-{
-    let found = connection(connections, conn)?;
-    match found.ending {
-        Ending::Running => Some(found),
-        Ending::Left(_) => None,
-        Ending::Shut => None,
-    }
-}
-
-/// The least number above this one of a connection that is open.
-fn next_open(connections: &[Connection], after: u32) -> Option<u32>
-    requires { length connections.now < 2 ^ 32 }
-    ensures { result ≡ next_open connections.now after }
-{
-    for index in after..connections.len() as u32 {
-        if connections[index as usize].is_open() {
-            return Some(index + 1);
-        }
-    }
-    None
-}
-
-/// Makes the memory ready that any one event needs.
-fn reserve(
-    journal: &mut Vec<Event>,
-    shut: &mut Vec<ShutAt>,
-    connections: &mut Vec<Connection>,
-    quiet: &mut Vec<bool>,
-    parts: &mut Vec<u32>,
-    live: &mut Vec<HistoryItem>,
-    rights: &mut Rights,
-) -> Result<(), AllocError>
-    ensures journal { journal.new.items ≡ journal.old.items }
-    ensures shut { shut.new.items ≡ shut.old.items }
-    ensures connections { connections.new.items ≡ connections.old.items }
-    ensures quiet { quiet.new.items ≡ quiet.old.items }
-    ensures parts { parts.new.items ≡ parts.old.items }
-    ensures live { live.new.items ≡ live.old.items }
-    ensures stands { (history : List Piece) → StandsFor rights.old history
-        → StandsFor rights.new history }
-    ensures journal_room { OnOk result (vec_len journal.new < vec_capacity journal.new) }
-    ensures shut_room { OnOk result (vec_len shut.new < vec_capacity shut.new) }
-    ensures connections_room { OnOk result (vec_len connections.new
-        < vec_capacity connections.new) }
-    ensures quiet_room { OnOk result (vec_len quiet.new < vec_capacity quiet.new) }
-    ensures parts_room { OnOk result (vec_len parts.new < vec_capacity parts.new) }
-    ensures live_room { OnOk result (vec_len live.new + 2 ≤ vec_capacity live.new) }
-    ensures rights_room { OnOk result (2 ≤ rights.new.room) }
-{
-    journal.reserve(1)?;
-    shut.reserve(1)?;
-    connections.reserve(1)?;
-    quiet.reserve(1)?;
-    parts.reserve(1)?;
-    live.reserve(2)?;
-    rights.reserve(2)
 }
 
 impl Tables {

@@ -13,12 +13,12 @@ invariant_of-self c =
       bytes = refl;
       shut = c.push_reserved.ensures.items
           ∙ ap (λ n. t.shut.items ++ record { conn = conn; n = n } ∷ []) count;
-      connections = c.shut.ensures.connections;
+      connections = c.shut_connection.ensures.connections;
       quiet = refl;
       epoch = refl;
       live = refl;
       rights = refl;
-      present = c.shut.ensures.present;
+      present = c.shut_connection.ensures.present;
       opens = refl;
       owner = refl;
       place = refl;

@@ -1,10 +1,10 @@
 use Rattle.std.proofs.Common.{◌≤◌, ◌-◌, ◌==◌, length, sym, ap, ◌∙◌, arith}
 use Rattle.std.specs.List.{list_any}
-use Rattle.dp_tables.specs.SessionLog.{state_in}
 use Rattle.dp_history.specs.Users.{mark}
+use Rattle.dp_commit.proofs.QuietLemmas.{quiet-listed}
+use Rattle.dp_commit.proofs.OpenLemmas.{given-out}
+use Rattle.dp_tables.specs.SessionLog.{state_in}
 use Rattle.dp_tables.proofs.TableLemmas.{of-ledger}
-use Rattle.dp_tables.proofs.QuietLemmas.{quiet-listed}
-use Rattle.dp_tables.proofs.ReadLemmas.{given-out}
 use Rattle.dp_tables.proofs.tables.Tables.is_quiet.Goals as goal
 
 pub returns : goal.returns

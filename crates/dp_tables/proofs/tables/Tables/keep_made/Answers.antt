@@ -1,20 +1,22 @@
-use Rattle.std.proofs.Common.{◌≡◌, ◌-◌, ◌++◌, ◌∷◌, [], true, length, refl, sym, ap}
-use Rattle.std.proofs.Common.{subst, ◌∙◌, arith, map, All}
+use Rattle.std.proofs.Common.{◌≡◌, ◌-◌, ◌++◌, ◌∷◌, [], true, length, refl, sym, ap, subst, ◌∙◌}
+use Rattle.std.proofs.Common.{arith, map, All}
 use Rattle.std.specs.Prelude.{option_to_list}
 use Rattle.dp_epochs.specs.State.{here}
 use Rattle.dp_epochs.specs.Effects.{answer_at, connections_at, live_after}
 use Rattle.dp_history.specs.Items.{entry_in, IsIn}
 use Rattle.dp_history.specs.Made.{AreMadeOf}
+use Rattle.dp_commit.specs.Marks.{quiet_of, opens_after}
+use Rattle.dp_commit.specs.Sending.{start_of, bytes_after, parts_after}
+use Rattle.dp_commit.specs.Placed.{AreFramesWith, own_entries, own_items, items_after}
+use Rattle.dp_commit.proofs.PlacedLemmas.{next-is, supply-few, own-alike, own-few, says-own}
+use Rattle.dp_commit.proofs.MarksLemmas.{there-by}
+use Rattle.dp_commit.proofs.QuietLemmas.{quiet-stays}
 use Rattle.dp_tables.specs.SessionLog.{state_in}
-use Rattle.dp_tables.specs.Tables.{quiet_of, start_of}
 use Rattle.dp_tables.specs.Inside.{is_ready, ledger_of, seen}
-use Rattle.dp_tables.specs.Ready.{AreFramesWith, own_entries, own_items, items_after, opens_after}
-use Rattle.dp_tables.specs.Ready.{bytes_after, parts_after, MayKeep}
-use Rattle.dp_tables.proofs.TableLemmas.{epoch-fits, tables-kept, ledger-is, of-ledger, next-is}
-use Rattle.dp_tables.proofs.TableLemmas.{supply-few, ready-live, ready-rights, own-alike}
-use Rattle.dp_tables.proofs.TableLemmas.{own-few, says-own}
-use Rattle.dp_tables.proofs.KeepLemmas.{there-by, connections-fit, row-fits, ready-lists}
-use Rattle.dp_tables.proofs.QuietLemmas.{quiet-stays}
+use Rattle.dp_tables.specs.Ready.{MayKeep}
+use Rattle.dp_tables.proofs.TableLemmas.{epoch-fits, tables-kept, ledger-is, of-ledger, ready-live}
+use Rattle.dp_tables.proofs.TableLemmas.{ready-rights}
+use Rattle.dp_tables.proofs.KeepLemmas.{connections-fit, row-fits, ready-lists}
 use Rattle.dp_tables.proofs.ResetLemmas.{frames-kept}
 use Rattle.dp_tables.proofs.tables.Tables.keep_made.Goals as goal
 
@@ -58,15 +60,15 @@ keep_frames-requires-clause-made c =
     (sym c.deref-2.ensures.value)
     (subst (AreMadeOf t.frames) (sym c.self.invariant.of.entries) c.self.invariant.frames))
 
-pub follow-requires-clause-parts : goal.follow-requires-clause-parts
-follow-requires-clause-parts c =
+pub note_reset-requires-clause-parts : goal.note_reset-requires-clause-parts
+note_reset-requires-clause-parts c =
     (ready-lists c.self.inside (ap (λ l. l.room) c.self.view_is ∙ c.requires.room)).3
 
-pub follow-requires-clause-within : goal.follow-requires-clause-within
-follow-requires-clause-within c = c.self.invariant.of.reset.within
+pub note_reset-requires-clause-within : goal.note_reset-requires-clause-within
+note_reset-requires-clause-within c = c.self.invariant.of.reset.within
 
-pub follow-requires-clause-size : goal.follow-requires-clause-size
-follow-requires-clause-size c =
+pub note_reset-requires-clause-size : goal.note_reset-requires-clause-size
+note_reset-requires-clause-size c =
     omega (
       arith,
       c.saturating_sub.ensures,
@@ -76,16 +78,16 @@ follow-requires-clause-size c =
           c.requires.made),
     )
 
-pub make-requires-clause-connections : goal.make-requires-clause-connections
-make-requires-clause-connections c =
+pub note_connection-requires-clause-connections : goal.note_connection-requires-clause-connections
+note_connection-requires-clause-connections c =
     (ready-lists c.self.inside (ap (λ l. l.room) c.self.view_is ∙ c.requires.room)).1
 
-pub make-requires-clause-quiet : goal.make-requires-clause-quiet
-make-requires-clause-quiet c =
+pub note_connection-requires-clause-quiet : goal.note_connection-requires-clause-quiet
+note_connection-requires-clause-quiet c =
     (ready-lists c.self.inside (ap (λ l. l.room) c.self.view_is ∙ c.requires.room)).2
 
-pub make-requires-clause-there : goal.make-requires-clause-there
-make-requires-clause-there c =
+pub note_connection-requires-clause-there : goal.note_connection-requires-clause-there
+note_connection-requires-clause-there c =
     let t = c.self.inside in
     let are = of-ledger t c.args.self.now c.self.invariant c.self.view_is in
     there-by (state_in c.args.self.now) c.args.event c.args.effect t.connections.items
@@ -180,9 +182,9 @@ invariant_of-self c =
           ∙ ap (λ e. t.journal.items ++ e ∷ []) c.note_own-event.ensures.event;
       bytes = refl;
       shut = refl;
-      connections = c.make.ensures.connections
+      connections = c.note_connection.ensures.connections
           ∙ ap (λ p. connections_at p t.connections.items effect) here_is;
-      quiet = c.make.ensures.quiet;
+      quiet = c.note_connection.ensures.quiet;
       epoch = c.place.ensures.epoch;
       live = c.place.ensures.live
           ∙ ap (λ own. items_after own supply t.live.items)
@@ -191,13 +193,13 @@ invariant_of-self c =
           (live_after s e effect)
           (c.note_own-event.ensures.stands s.live c.self.invariant.of.stands)
           (next-is t.journal.items s e effect is.does supply is.places);
-      present = c.make.ensures.present;
-      opens = c.make.ensures.opens ∙ ap (λ n. opens_after n effect t.opens) count;
-      owner = c.follow.ensures.owner;
-      place = c.note_place.ensures;
-      parts = c.follow.ensures.parts
+      present = c.note_connection.ensures.present;
+      opens = c.note_connection.ensures.opens ∙ ap (λ n. opens_after n effect t.opens) count;
+      owner = c.note_reset.ensures.owner;
+      place = c.note_own-event.ensures.place;
+      parts = c.note_reset.ensures.parts
           ∙ ap (λ n. parts_after n effect t.owner t.parts.items) count;
-      part_bytes = c.follow.ensures.bytes
+      part_bytes = c.note_reset.ensures.bytes
           ∙ ap (λ n. bytes_after n effect t.owner t.part_bytes) size;
       frames = frames-kept s (seen t) c.self.invariant.of e effect supply t.frames
           c.keep_frames.new.frames is.places
@@ -214,7 +216,7 @@ returns-clause-kept c =
     ∙ ap (λ e. c.self.inside.journal.items ++ e ∷ []) c.note_own-event.ensures.event
     ∙ ap (λ l. l.journal ++ c.args.event ∷ []) c.self.view_is)
     (ap (λ l. l.shut) c.self.view_is)
-    (ap quiet_of c.make.ensures.quiet
+    (ap quiet_of c.note_connection.ensures.quiet
     ∙ quiet-stays c.args.effect c.self.inside.quiet.items
     ∙ ap (λ l. l.quiet) c.self.view_is)
     refl

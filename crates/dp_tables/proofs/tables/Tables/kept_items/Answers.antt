@@ -3,8 +3,8 @@ use Rattle.std.specs.List.{filter}
 use Rattle.dp_acl.specs.Opening.{goes_over}
 use Rattle.dp_epochs.specs.State.{kept_by}
 use Rattle.dp_history.specs.Items.{entry_in, IsIn}
+use Rattle.dp_commit.specs.Sending.{start_of}
 use Rattle.dp_tables.specs.SessionLog.{state_in}
-use Rattle.dp_tables.specs.Tables.{start_of}
 use Rattle.dp_tables.specs.Inside.{seen}
 use Rattle.dp_tables.proofs.TableLemmas.{of-ledger}
 use Rattle.dp_tables.proofs.ResetLemmas.{kept-is, kept-said, dropped-short}

@@ -1,11 +1,11 @@
 use Rattle.std.proofs.Common.{◌++◌, take, length, sym, ap, ◌∙◌, append-nil}
 use Rattle.dp_messages.specs.Messages.{entry_bytes}
 use Rattle.dp_history.specs.Frames.{frames_of}
-use Rattle.dp_tables.specs.SessionLog.{state_in}
 use Rattle.dp_history.specs.Items.{entry_in}
+use Rattle.dp_history.proofs.ItemLemmas.{found-at}
+use Rattle.dp_tables.specs.SessionLog.{state_in}
 use Rattle.dp_tables.proofs.TableLemmas.{of-ledger}
 use Rattle.dp_tables.proofs.PageLemmas.{page-of-one}
-use Rattle.dp_history.proofs.ItemLemmas.{found-at}
 use Rattle.dp_tables.proofs.tables.Tables.put_one.Goals as goal
 
 pub returns-in_ok-put_item-in-Some-clause-put : goal.returns-in_ok-put_item-in-Some-clause-put

@@ -1,7 +1,7 @@
 use Rattle.std.proofs.Common.{subst}
 use Rattle.dp_epochs.specs.Effects.{IsEffect}
+use Rattle.dp_commit.specs.Placed.{IsSupply}
 use Rattle.dp_tables.specs.SessionLog.{state_in}
-use Rattle.dp_tables.specs.Ready.{IsSupply}
 use Rattle.dp_tables.proofs.tables.Tables.ready_for.Goals as goal
 
 pub returns-clause-does : goal.returns-clause-does

@@ -1,7 +1,7 @@
 use Rattle.std.proofs.Common.{map, sym, subst, arith}
 use Rattle.dp_history.specs.Items.{entry_in}
-use Rattle.dp_tables.specs.Ready.{AreFramesWith}
-use Rattle.dp_tables.proofs.commit.keep_frames.Goals as goal
+use Rattle.dp_commit.specs.Placed.{AreFramesWith}
+use Rattle.dp_commit.proofs.live.keep_frames.Goals as goal
 
 pub returns-in-Opens : goal.returns-in-Opens
 returns-in-Opens c =

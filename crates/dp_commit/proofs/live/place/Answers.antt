@@ -1,7 +1,7 @@
 use Rattle.std.proofs.Common.{◌≡◌, ◌++◌, sym, subst, ◌∙◌, append_assoc}
 use Rattle.dp_acl.specs.Table.{StandsFor}
-use Rattle.dp_tables.specs.Ready.{unboxed, IsWithSupply}
-use Rattle.dp_tables.proofs.commit.place.Goals as goal
+use Rattle.dp_commit.specs.Placed.{unboxed, IsWithSupply}
+use Rattle.dp_commit.proofs.live.place.Goals as goal
 
 pub returns-after-own-clause-stands : goal.returns-after-own-clause-stands
 returns-after-own-clause-stands c = λ journal history next stands given.

@@ -1,8 +1,8 @@
 -- The quiet connections as flags, and as their numbers.
 use Rattle.std.proofs.Common.{◌≡◌, ℕ, zero, suc, ◌+◌, ◌-◌, ◌<◌, ◌≤◌, ◌==◌, Bool, true, false, ◌&&◌}
-use Rattle.std.proofs.Common.{◌||◌, cond, if◌then◌else◌}
-use Rattle.std.proofs.Common.{List, [], ◌∷◌, ◌++◌, length, get_or, set, None, Some, is_some}
-use Rattle.std.proofs.Common.{refl, sym, ap, ◌∙◌, ⊎_elim, arith, append-nil, length-append}
+use Rattle.std.proofs.Common.{◌||◌, cond, if◌then◌else◌, List, [], ◌∷◌, ◌++◌, length, get_or, set}
+use Rattle.std.proofs.Common.{None, Some, is_some, refl, sym, ap, ◌∙◌, ⊎_elim, arith, append-nil}
+use Rattle.std.proofs.Common.{length-append}
 use Rattle.std.specs.List.{list_any, filter, slice_get, range_with_len}
 use Rattle.std.proofs.lemmas.Bool.{cases_eq, cases_Bool, eq-eqb, ne_eqb}
 use Rattle.std.proofs.lemmas.List.{get_or-set_other, get_or_append_left, set_past}
@@ -18,10 +18,9 @@ use Rattle.dp_epochs.specs.declared.effect.Effect.TheVariants.{Joined}
 use Rattle.dp_epochs.specs.State.{State}
 use Rattle.dp_epochs.specs.Past.{quiet_with}
 use Rattle.dp_history.specs.Users.{mark}
-use Rattle.dp_tables.specs.Tables.{quiet_of, flagged}
-use Rattle.dp_tables.specs.Ready.{quiet_after}
 use Rattle.dp_history.proofs.Ranges.{find-first, find-none, filter-range_same, list_any-find}
 use Rattle.dp_history.proofs.Ranges.{list_any-filter, both}
+use Rattle.dp_commit.specs.Marks.{quiet_of, flagged, quiet_after}
 
 -- a number of a range is among those that pass a test exactly if it passes
 any-range : (p : ℕ → Bool) (low n conn : ℕ) → low ≤ conn → conn < low + n

@@ -1,6 +1,6 @@
 use Rattle.std.proofs.Common.{◌≡◌, ℕ, ◌+◌, ◌≤◌, false, is_some}
 use Rattle.dp_epochs.specs.State.{open_in}
-use Rattle.dp_tables.proofs.tables.next_open.Given as goal
+use Rattle.dp_commit.proofs.connections.next_open.Given as goal
 
 abbrev pub invariant-loop-index : goal.invariant-loop-index
 invariant-loop-index l =

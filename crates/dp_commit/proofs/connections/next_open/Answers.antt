@@ -2,8 +2,8 @@ use Rattle.std.proofs.Common.{◌+◌, ◌-◌, ◌<◌, ◌≤◌, length, is_s
 use Rattle.std.proofs.lemmas.Bool.{cases_lt}
 use Rattle.dp_epochs.specs.State.{open_in}
 use Rattle.dp_history.proofs.Ranges.{find-first, find-none}
-use Rattle.dp_tables.proofs.ReadLemmas.{open-index}
-use Rattle.dp_tables.proofs.tables.next_open.Goals as goal
+use Rattle.dp_commit.proofs.OpenLemmas.{open-index}
+use Rattle.dp_commit.proofs.connections.next_open.Goals as goal
 
 pub returns-then-is_open : goal.returns-then-is_open
 returns-then-is_open c =

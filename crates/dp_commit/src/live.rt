@@ -1,0 +1,144 @@
+//! How an event is kept in the live history, with its rights and its frames. It takes no memory.
+
+ghost use Rattle.std.specs.Prelude.{◌≡◌, ◌+◌, ◌-◌, ◌^◌, ◌<◌, ◌≤◌, ◌∷◌, ◌++◌, [], List, Some};
+ghost use Rattle.std.specs.Prelude.{length, option_to_list, vec_len, vec_capacity, All, map};
+ghost use Rattle.dp_messages.specs.declared.message.Entry.{Entry as Piece};
+ghost use Rattle.dp_acl.specs.Table.{StandsFor};
+ghost use Rattle.dp_epochs.specs.declared.event.Event.{Event as Kept};
+ghost use Rattle.dp_epochs.specs.Effects.{own_message};
+ghost use Rattle.dp_epochs.specs.State.{entry_of};
+ghost use Rattle.dp_history.specs.Items.{entry_in, IsIn, IsSay};
+ghost use Rattle.dp_history.specs.Made.{AreMadeOf};
+ghost use Rattle.dp_commit.specs.Placed.{own_entries, own_items, SaysOwn, supplied, items_after};
+ghost use Rattle.dp_commit.specs.Placed.{unboxed, server_items, IsWithSupply, AreFramesWith};
+ghost use Rattle.dp_commit.specs.Placed.{epoch_with};
+ghost use Rattle.dp_commit.specs.Sending.{next_place};
+
+use crate::sending::note_begun;
+use crate::supply::Supply;
+use dp_acl::Rights;
+use dp_epochs::{Effect, Event};
+use dp_history::{HistoryFrames, HistoryItem};
+use dp_messages::Entry;
+
+/// Notes the entry of a message that the user says.
+fn note_said(rights: &mut Rights, event: Event, user: u8) -> Event
+    requires said { IsSay (Some event) }
+    requires room { 1 ≤ rights.old.room }
+    ensures event { result ≡ event }
+    ensures stands { (history : List Piece) → StandsFor rights.old history
+        → StandsFor rights.new (history ++ entry_of user (own_message event) ∷ []) }
+    ensures room { rights.old.room ≤ rights.new.room + 1 }
+{
+    match event {
+        Event::Say { conn, msg } => {
+            let entry = Entry { user, msg };
+            rights.note_reserved(&entry);
+            Event::Say {
+                conn,
+                msg: entry.msg,
+            }
+        }
+        _ => unreachable!(),
+    }
+}
+
+/// Notes the entry of what the event says, if that is placed, and from where on a reset keeps
+/// entries, if the event begins one.
+pub fn note_own(rights: &mut Rights, place: &mut Option<u32>, event: Event, effect: Effect) -> Event
+    requires said { SaysOwn event effect }
+    requires room { length (own_entries event effect) ≤ rights.old.room }
+    ensures event { result ≡ event }
+    ensures stands { (history : List Piece) → StandsFor rights.old history
+        → StandsFor rights.new (history ++ own_entries event effect) }
+    ensures room { rights.old.room ≤ rights.new.room + length (own_entries event effect) }
+    ensures place { place.new ≡ next_place event effect place.old }
+{
+    match effect {
+        Effect::Placed { connection, .. } => note_said(rights, event, connection.user),
+        Effect::Began { .. } => note_begun(place, event),
+        _ => event,
+    }
+}
+
+/// The entry of what the event of this number says, as it is kept, if that is placed.
+pub fn own_item(event: u32, effect: Effect) -> Option<HistoryItem>
+    ensures { option_to_list result ≡ own_items event effect }
+{
+    match effect {
+        Effect::Placed { connection, .. } => Some(HistoryItem::Said {
+            event,
+            user: connection.user,
+        }),
+        _ => None,
+    }
+}
+
+/// Places an entry, if there is one.
+fn place_server(live: &mut Vec<HistoryItem>, rights: &mut Rights, entry: Option<Box<Entry>>)
+    requires live { vec_len live.old + length (unboxed entry) ≤ vec_capacity live.old }
+    requires rights { length (unboxed entry) ≤ rights.old.room }
+    ensures live { live.new.items ≡ live.old.items ++ server_items entry }
+    ensures stands { (history : List Piece) → StandsFor rights.old history
+        → StandsFor rights.new (history ++ unboxed entry) }
+    ensures len { vec_len live.new ≡ vec_len live.old + length (unboxed entry) }
+    ensures capacity { vec_capacity live.new ≡ vec_capacity live.old }
+    ensures room { rights.old.room ≤ rights.new.room + length (unboxed entry) }
+{
+    if let Some(entry) = entry {
+        rights.note_reserved(&entry);
+        live.push_reserved(HistoryItem::Server(entry));
+    }
+}
+
+/// Keeps the frames of the entries from a place on that go over, if an epoch opens.
+pub fn keep_frames(
+    frames: &mut HistoryFrames,
+    journal: &[Event],
+    live: &[HistoryItem],
+    from: usize,
+    supply: &Supply,
+)
+    requires said { All (IsIn journal.now) live.now }
+    requires made { AreMadeOf frames.old (map (entry_in journal.now) live.now) }
+    ensures { AreFramesWith (map (entry_in journal.now) live.now) from supply.now frames.old
+        frames.new }
+{
+    if let Supply::Opens(opening) = supply {
+        frames.keep(journal, live, from, opening.live.len());
+    }
+}
+
+/// Places the event's own entry, which was noted, and what was made ahead.
+pub fn place(
+    epoch: &mut u32,
+    live: &mut Vec<HistoryItem>,
+    rights: &mut Rights,
+    own: Option<HistoryItem>,
+    supply: Supply,
+)
+    requires next { epoch.old < 2 ^ 32 - 1 }
+    requires live { vec_len live.old + length (option_to_list own) + length (supplied supply)
+        ≤ vec_capacity live.old }
+    requires rights { length (supplied supply) ≤ rights.old.room }
+    ensures epoch { epoch.new ≡ epoch_with supply epoch.old }
+    ensures live { live.new.items ≡ items_after (option_to_list own) supply live.old.items }
+    ensures stands { (journal : List Kept) (history : List Piece) (next : List Piece)
+        → StandsFor rights.old history → IsWithSupply journal supply history next
+        → StandsFor rights.new next }
+{
+    match supply {
+        Supply::Entries { first, second } => {
+            if let Some(item) = own {
+                live.push_reserved(item);
+            }
+            place_server(live, rights, first);
+            place_server(live, rights, second);
+        }
+        Supply::Opens(opening) => {
+            *epoch += 1;
+            *live = opening.live;
+            *rights = Box::into_inner(opening.rights);
+        }
+    }
+}
