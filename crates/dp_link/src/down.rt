@@ -32,6 +32,10 @@ use std::time::Duration;
 /// milliseconds, and the first entry after a pause goes out at once.
 const PAUSE_MILLIS: u64 = 2;
 
+const SHORT_PAGE: usize = 1 << 13;
+
+const LONG_PAGE: usize = 3 << 16;
+
 /// Writes the entries that are to come for a connection, each as one frame, from the first one of
 /// the epoch in which it joined on. It waits for more if there are none, and goes on until
 /// nothing more is to come.
@@ -104,7 +108,9 @@ fn send_more<W: Wait, K: Keeper, S: Sink>(
     let seen = hall.count(seat);
     match send_page(rt, hall, seat, tx, greeting, asked) {
         Ok(true) => {
-            hall.rest(rt, Duration::from_millis(PAUSE_MILLIS));
+            if let Some(pause) = pause_after(asked.frames.len()) {
+                hall.rest(rt, pause);
+            }
             Ok(())
         }
         Ok(false) => {
@@ -112,6 +118,17 @@ fn send_more<W: Wait, K: Keeper, S: Sink>(
             Ok(())
         }
         Err(end) => Err(end),
+    }
+}
+
+/// How long a link rests after a page of so many bytes.
+fn pause_after(bytes: usize) -> Option<Duration> {
+    if bytes < SHORT_PAGE {
+        Some(Duration::from_micros(1500))
+    } else if bytes < LONG_PAGE {
+        Some(Duration::from_millis(8))
+    } else {
+        None
     }
 }
 

@@ -45,7 +45,7 @@ use dp_msg_meta::Meta;
 use std::alloc::{AllocError, Global};
 
 /// The most entries of a page.
-const PAGE: usize = 1 << 10;
+const PAGE: usize = 1 << 14;
 
 /// Entries that were put as frames: so many of an epoch, from this place on.
 #[derive(Clone, Copy)]
