@@ -26,7 +26,7 @@ pub record AreFramesOf (frames : Frames) (entries : List Entry) : Type 0 where
 
 -- the most bytes of a page of several frames
 abbrev pub page_limit : ℕ
-page_limit = 262144
+page_limit = 65536
 
 -- so many frames were put after what was there: one, or no more bytes than a page may have
 abbrev pub IsShort : ℕ → List ℕ → List ℕ → Type 0

@@ -64,7 +64,7 @@ impl HistoryFrames {
     }
 
     /// Adds the frames from a place on at the end of the bytes, at most this many, and no more than
-    /// 262,144 bytes of them unless it is one. It answers how many.
+    /// 65,536 bytes of them unless it is one. It answers how many.
     ///
     /// # Errors
     ///

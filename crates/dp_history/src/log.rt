@@ -13,7 +13,7 @@ use std::alloc::{AllocError, Global};
 use std::marker::Model;
 
 /// A page of more bytes has one entry.
-const PAGE_BYTES: usize = 1 << 18;
+const PAGE_BYTES: usize = 1 << 16;
 
 /// Frames of entries, one after another, so that each is made once for all who get it. It is seen
 /// as their bytes and the places where they end.

@@ -28,13 +28,20 @@ use std::alloc::{AllocError, Global};
 use std::sync::Wait;
 use std::time::Duration;
 
-/// So long a link lets entries come after a page, so that many go out in one write. Nobody sees two
-/// milliseconds, and the first entry after a pause goes out at once.
-const PAUSE_MILLIS: u64 = 2;
+/// A page of fewer bytes has entries that come no faster than painters make them.
+const FEW_BYTES: usize = 1 << 13;
 
-const SHORT_PAGE: usize = 1 << 13;
+/// After a page of as many bytes the next one may be whole already: a page has at most twice as
+/// many, unless it is one entry.
+const MANY_BYTES: usize = 1 << 15;
 
-const LONG_PAGE: usize = 3 << 16;
+/// So long a link rests after a page of few bytes, so that many entries go out in one write. Nobody
+/// sees two milliseconds, and the first entry after a pause goes out at once.
+const SHORT_REST_MICROS: u64 = 1500;
+
+/// So long it rests after a page of more bytes. Entries come in bulk then, and a write of few of
+/// them costs as much as one of many.
+const LONG_REST_MILLIS: u64 = 12;
 
 /// Writes the entries that are to come for a connection, each as one frame, from the first one of
 /// the epoch in which it joined on. It waits for more if there are none, and goes on until
@@ -108,9 +115,7 @@ fn send_more<W: Wait, K: Keeper, S: Sink>(
     let seen = hall.count(seat);
     match send_page(rt, hall, seat, tx, greeting, asked) {
         Ok(true) => {
-            if let Some(pause) = pause_after(asked.frames.len()) {
-                hall.rest(rt, pause);
-            }
+            rest_after(rt, hall, asked.frames.len());
             Ok(())
         }
         Ok(false) => {
@@ -121,14 +126,12 @@ fn send_more<W: Wait, K: Keeper, S: Sink>(
     }
 }
 
-/// How long a link rests after a page of so many bytes.
-fn pause_after(bytes: usize) -> Option<Duration> {
-    if bytes < SHORT_PAGE {
-        Some(Duration::from_micros(1500))
-    } else if bytes < LONG_PAGE {
-        Some(Duration::from_millis(8))
-    } else {
-        None
+/// Lets more entries come after a page of so many bytes.
+fn rest_after<W: Wait, K: Keeper>(rt: &W, hall: &Hall<Session<K>>, bytes: usize) {
+    if bytes < FEW_BYTES {
+        hall.rest(rt, Duration::from_micros(SHORT_REST_MICROS));
+    } else if bytes < MANY_BYTES {
+        hall.rest(rt, Duration::from_millis(LONG_REST_MILLIS));
     }
 }
 

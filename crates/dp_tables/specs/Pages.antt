@@ -28,7 +28,7 @@ IsPage answer page old new = (most : ℕ) × AnswersBy (answer most) page old ne
 
 -- the most entries of a page
 abbrev pub page_most : ℕ
-page_most = 1024
+page_most = 16384
 
 -- nothing was put, or a page of few entries that has one frame or few bytes
 abbrev pub IsBounded : Option Page → List ℕ → List ℕ → Type 0
