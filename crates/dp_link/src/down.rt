@@ -37,7 +37,7 @@ const MANY_BYTES: usize = 1 << 15;
 
 /// So long a link rests after a page of few bytes, so that many entries go out in one write. Nobody
 /// sees two milliseconds, and the first entry after a pause goes out at once.
-const SHORT_REST_MICROS: u64 = 1500;
+const SHORT_REST_MICROS: u64 = 1250;
 
 /// So long it rests after a page of more bytes. Entries come in bulk then, and a write of few of
 /// them costs as much as one of many.
