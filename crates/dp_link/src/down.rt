@@ -29,7 +29,7 @@ use std::sync::Wait;
 use std::time::Duration;
 
 /// A page of fewer bytes has entries that come no faster than painters make them.
-const FEW_BYTES: usize = 1 << 13;
+const FEW_BYTES: usize = 1 << 11;
 
 /// After a page of as many bytes the next one may be whole already: a page has at most twice as
 /// many, unless it is one entry.
@@ -41,7 +41,7 @@ const SHORT_REST_MICROS: u64 = 1250;
 
 /// So long it rests after a page of more bytes. Entries come in bulk then, and a write of few of
 /// them costs as much as one of many.
-const LONG_REST_MILLIS: u64 = 12;
+const LONG_REST_MILLIS: u64 = 16;
 
 /// Writes the entries that are to come for a connection, each as one frame, from the first one of
 /// the epoch in which it joined on. It waits for more if there are none, and goes on until
