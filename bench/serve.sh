@@ -24,7 +24,7 @@ run() {
 
 bin/drawpile replay < examples/red-pixel.frames > /dev/null # builds it on first use
 for load in "--clients 2 --messages 1000000" "--clients 64 --messages 1000000" \
-  "--clients 64 --messages 1000000 --speakers 8 --slow 8" \
+  "--clients 64 --messages 1000000 --speakers 8 --slow 8" "--clients 64 --messages 1000000 --speakers 64" \
   "--clients 64 --messages 5000 --rate 1000"; do
   # shellcheck disable=SC2086
   run drawpile bin/drawpile -- $load
@@ -35,4 +35,9 @@ done
 for program in bin/drawpile "$yardstick"; do
   printf '%s: ' "$(basename "$program")"
   bench/pings.py "$program"
+done
+# A painter who joins when 1,000,000 entries are there.
+for program in bin/drawpile "$yardstick"; do
+  printf '%s: ' "$(basename "$program")"
+  bench/late.py "$program"
 done

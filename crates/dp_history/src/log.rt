@@ -49,12 +49,17 @@ fn count_within(ends: &[usize], limit: usize) -> usize
     ensures within { result ≤ length ends.now }
     ensures limit { (result ≡ 1) ⊎ (slice_index_or ends.now (result - 1) 0 ≤ limit) }
 {
-    for count in 1..ends.len() {
-        if ends[count] > limit {
-            return count;
+    let mut count = 1;
+    let mut end = ends.len();
+    while count < end {
+        let middle = count + (end - count) / 2;
+        if ends[middle] <= limit {
+            count = middle + 1;
+        } else {
+            end = middle;
         }
     }
-    ends.len()
+    count
 }
 
 impl FrameLog {

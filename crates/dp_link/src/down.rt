@@ -28,9 +28,20 @@ use std::alloc::{AllocError, Global};
 use std::sync::Wait;
 use std::time::Duration;
 
-/// So long a link lets entries come after a page, so that many go out in one write. Nobody sees two
-/// milliseconds, and the first entry after a pause goes out at once.
-const PAUSE_MILLIS: u64 = 2;
+/// A page of fewer bytes has entries that come no faster than painters make them.
+const FEW_BYTES: usize = 1 << 11;
+
+/// After a page of as many bytes the next one may be whole already: a page has at most twice as
+/// many, unless it is one entry.
+const MANY_BYTES: usize = 1 << 15;
+
+/// So long a link rests after a page of few bytes, so that many entries go out in one write. Nobody
+/// sees two milliseconds, and the first entry after a pause goes out at once.
+const SHORT_REST_MICROS: u64 = 1250;
+
+/// So long it rests after a page of more bytes. Entries come in bulk then, and a write of few of
+/// them costs as much as one of many.
+const LONG_REST_MILLIS: u64 = 16;
 
 /// Writes the entries that are to come for a connection, each as one frame. They begin with the
 /// first one of the epoch in which it joined. It waits for more if there are none, and goes on
@@ -104,7 +115,7 @@ fn send_more<W: Wait, K: Keeper, S: Sink>(
     let seen = hall.count(seat);
     match send_page(rt, hall, seat, tx, greeting, asked) {
         Ok(true) => {
-            hall.rest(rt, Duration::from_millis(PAUSE_MILLIS));
+            rest_after(rt, hall, asked.frames.len());
             Ok(())
         }
         Ok(false) => {
@@ -112,6 +123,15 @@ fn send_more<W: Wait, K: Keeper, S: Sink>(
             Ok(())
         }
         Err(end) => Err(end),
+    }
+}
+
+/// Lets more entries come after a page of so many bytes.
+fn rest_after<W: Wait, K: Keeper>(rt: &W, hall: &Hall<Session<K>>, bytes: usize) {
+    if bytes < FEW_BYTES {
+        hall.rest(rt, Duration::from_micros(SHORT_REST_MICROS));
+    } else if bytes < MANY_BYTES {
+        hall.rest(rt, Duration::from_millis(LONG_REST_MILLIS));
     }
 }
 
