@@ -11,7 +11,7 @@ ghost use Rattle.dp_board.specs.Moves.{is_draw};
 ghost use Rattle.dp_board.specs.Counts.{CountsFew};
 ghost use Rattle.dp_fork.specs.Fork.{Answers, Became, IsForkOf, MovesBy, Shows};
 ghost use Rattle.dp_fork.specs.Fork.{commands_in, due_on_fork, is_calm, is_quiet, is_settled};
-ghost use Rattle.dp_fork.specs.Fork.{is_apart, is_rebuilt, is_stranger, left_by, seen_on};
+ghost use Rattle.dp_fork.specs.Fork.{is_apart, is_rebuilt, is_stranger, left_by, seen_on, stays};
 
 use crate::own::Own;
 use crate::pending::{draw_from, has_command, is_apart, is_draw, may_move};
@@ -22,12 +22,20 @@ use std::collections::VecDeque;
 use std::marker::Model;
 use std::sync::ledger::Ledger;
 
+/// How many commands of others the board may follow for each act that is said, and at most, while
+/// it shows none of the fork's.
+const FOLLOWS_A_SAY: u32 = 2;
+const MOST_FOLLOWS: u32 = 16;
+
 /// Acts that are said and aren't answered, in order, and a board that shows their commands on a
-/// confirmed one. It has a board of its own only while there is a command to show.
+/// confirmed one. It makes a board of its own when there is a command to show. Once that is
+/// answered the board may stay and follow the confirmed one, so that the next command that is said
+/// is drawn on tiles that are the board's alone.
 #[derive(Drop)]
 pub struct Fork<B: Board> {
     board: Option<B>,
     acts: VecDeque<Act<B::Op>>,
+    follows: u32,
 }
 
 impl<B: Board> Model for Fork<B> {
@@ -101,6 +109,7 @@ impl<B: Board> Fork<B> {
         Fork {
             board: None,
             acts: VecDeque::new(alloc),
+            follows: 0,
         }
     }
 
@@ -145,7 +154,10 @@ impl<B: Board> Fork<B> {
         self.acts.reserve(1)?;
         show(&mut self.board, confirmed, &act, draws, tiles)?;
         match self.acts.push_back(act) {
-            Ok(()) => Ok(()),
+            Ok(()) => {
+                self.follows = self.follows.min(MOST_FOLLOWS - FOLLOWS_A_SAY) + FOLLOWS_A_SAY;
+                Ok(())
+            }
             Err(_) => unreachable!(),
         }
     }
@@ -226,6 +238,83 @@ impl<B: Board> Fork<B> {
         if !has_command(&self.acts, 0) {
             self.clear_board();
         }
+    }
+
+    /// Goes on to the board that an act made of the confirmed one, if the fork needs no drawing for
+    /// that. A board that shows no command of the fork may stay for the next one that is said: a
+    /// stranger's command is drawn on it too, as often as acts were said lately.
+    pub fn follow<D: Ledger, T: Ledger>(
+        &mut self,
+        act: &Act<B::Op>,
+        change: Change,
+        own: Own,
+        draws: &mut Steps<D>,
+        tiles: &mut Steps<T>,
+    )
+        ensures acts { self.new.acts ≡ left_by own self.old.acts }
+        ensures fork { is_settled act.now change own self.old.acts ≡ true → (before now : B)
+            → IsForkOf B.is_board B.drawn before self.old → B.is_board now
+            → Became B.drawn before now act.now change → Answers own act.now self.old.acts
+            → IsForkOf B.is_board B.drawn now self.new }
+        ensures counts { CountsFew B.weight
+            (due_on_fork B.are_apart act.now change own self.old.acts) draws.old draws.new
+            tiles.old tiles.new }
+    {
+        match act {
+            Act::Draw(op) if self.is_beside(op, change, own) => {
+                self.follow_command(op, draws, tiles)
+            }
+            _ => self.keep(act, change, own),
+        }
+    }
+
+    /// Goes on to the confirmed board with a stranger's command, if no command is left. The board
+    /// has it drawn too, or is let go.
+    fn follow_command<D: Ledger, T: Ledger>(
+        &mut self,
+        op: &B::Op,
+        draws: &mut Steps<D>,
+        tiles: &mut Steps<T>,
+    )
+        ensures acts { self.new.acts ≡ self.old.acts }
+        ensures fork { list_any is_draw self.old.acts ≡ false → (before : B)
+            → IsForkOf B.is_board B.drawn before self.old
+            → IsForkOf B.is_board B.drawn (B.drawn before op.now) self.new }
+        ensures counts { CountsFew B.weight (op.now ∷ []) draws.old draws.new tiles.old tiles.new }
+    {
+        B::laws();
+        if self.follows == 0 {
+            self.clear_board();
+            return;
+        }
+        self.follows -= 1;
+        match draw_where(&mut self.board, op, draws, tiles) {
+            Ok(()) => {}
+            Err(_) => self.clear_board(),
+        }
+    }
+
+    /// Goes on to another confirmed board, if that needs no drawing. The board stays, if it shows
+    /// what is left of the fork. It takes no memory.
+    fn keep(&mut self, act: &Act<B::Op>, change: Change, own: Own)
+        ensures acts { self.new.acts ≡ left_by own self.old.acts }
+        ensures fork { is_settled act.now change own self.old.acts ≡ true → (before now : B)
+            → IsForkOf B.is_board B.drawn before self.old → B.is_board now
+            → Became B.drawn before now act.now change → Answers own act.now self.old.acts
+            → IsForkOf B.is_board B.drawn now self.new }
+    {
+        if self.stays(act, change, own) {
+            self.forget(own);
+        } else {
+            self.answer(own);
+        }
+    }
+
+    /// Whether the board shows what is left on the board that the act made of the confirmed one.
+    fn stays(&self, act: &Act<B::Op>, change: Change, own: Own) -> bool
+        ensures { result ≡ stays act.now change own self.now.acts }
+    {
+        change != Change::Rebuilt && own != Own::Lost && self.is_calm(act, own)
     }
 
     /// Lets the board go.
