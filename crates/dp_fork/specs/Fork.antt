@@ -114,8 +114,8 @@ is_lost Lost = true
 
 -- the fork's board shows what is left of it on the confirmed board that the act made: no group
 -- moved, and the act is calm
-abbrev pub stays : {Op : Type 0} → Act Op → Change → Own → List (Act Op) → Bool
-stays act change own said =
+abbrev pub board_stays : {Op : Type 0} → Act Op → Change → Own → List (Act Op) → Bool
+board_stays act change own said =
     not (is_rebuilt change) && not (is_lost own) && is_calm act own said
 
 -- the fork needs no drawing: no command is left, or no group moved and the act is calm

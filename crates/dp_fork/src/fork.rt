@@ -10,8 +10,9 @@ ghost use Rattle.dp_board.specs.Commands.{command_of};
 ghost use Rattle.dp_board.specs.Moves.{is_draw};
 ghost use Rattle.dp_board.specs.Counts.{CountsFew};
 ghost use Rattle.dp_fork.specs.Fork.{Answers, Became, IsForkOf, MovesBy, Shows};
-ghost use Rattle.dp_fork.specs.Fork.{commands_in, due_on_fork, is_calm, is_quiet, is_settled};
-ghost use Rattle.dp_fork.specs.Fork.{is_apart, is_rebuilt, is_stranger, left_by, seen_on, stays};
+ghost use Rattle.dp_fork.specs.Fork.{board_stays, commands_in, due_on_fork, is_calm, is_quiet};
+ghost use Rattle.dp_fork.specs.Fork.{is_apart, is_rebuilt, is_settled, is_stranger, left_by};
+ghost use Rattle.dp_fork.specs.Fork.{seen_on};
 
 use crate::own::Own;
 use crate::pending::{draw_from, has_command, is_apart, is_draw, may_move};
@@ -22,20 +23,24 @@ use std::collections::VecDeque;
 use std::marker::Model;
 use std::sync::ledger::Ledger;
 
-/// How many commands of others the board may follow for each act that is said, and at most, while
-/// it shows none of the fork's.
-const FOLLOWS_A_SAY: u32 = 2;
-const MOST_FOLLOWS: u32 = 16;
+/// What an act that is said counts, and the most that is counted. A stranger's command takes one
+/// off.
+const A_SAY: u32 = 2;
+
+const MOST_SAID: u32 = 16;
+
+/// From what count on a board stays that shows no command of the fork.
+const ENOUGH_SAID: u32 = 4;
 
 /// Acts that are said and aren't answered, in order, and a board that shows their commands on a
-/// confirmed one. It makes a board of its own when there is a command to show. Once that is
-/// answered the board may stay and follow the confirmed one, so that the next command that is said
+/// confirmed one. It makes a board of its own when there is a command to show. If much was said
+/// lately the board stays when that is answered, and follows the confirmed one. So the next command
 /// is drawn on tiles that are the board's alone.
 #[derive(Drop)]
 pub struct Fork<B: Board> {
     board: Option<B>,
     acts: VecDeque<Act<B::Op>>,
-    follows: u32,
+    said_lately: u32,
 }
 
 impl<B: Board> Model for Fork<B> {
@@ -109,7 +114,7 @@ impl<B: Board> Fork<B> {
         Fork {
             board: None,
             acts: VecDeque::new(alloc),
-            follows: 0,
+            said_lately: 0,
         }
     }
 
@@ -155,7 +160,7 @@ impl<B: Board> Fork<B> {
         show(&mut self.board, confirmed, &act, draws, tiles)?;
         match self.acts.push_back(act) {
             Ok(()) => {
-                self.follows = self.follows.min(MOST_FOLLOWS - FOLLOWS_A_SAY) + FOLLOWS_A_SAY;
+                self.said_lately = self.said_lately.min(MOST_SAID - A_SAY) + A_SAY;
                 Ok(())
             }
             Err(_) => unreachable!(),
@@ -241,8 +246,7 @@ impl<B: Board> Fork<B> {
     }
 
     /// Goes on to the board that an act made of the confirmed one, if the fork needs no drawing for
-    /// that. A board that shows no command of the fork may stay for the next one that is said: a
-    /// stranger's command is drawn on it too, as often as acts were said lately.
+    /// that. If much was said lately its board stays, and a stranger's command is drawn on it too.
     pub fn follow<D: Ledger, T: Ledger>(
         &mut self,
         act: &Act<B::Op>,
@@ -283,19 +287,19 @@ impl<B: Board> Fork<B> {
         ensures counts { CountsFew B.weight (op.now ∷ []) draws.old draws.new tiles.old tiles.new }
     {
         B::laws();
-        if self.follows == 0 {
+        self.said_lately = self.said_lately.saturating_sub(1);
+        if self.said_lately < ENOUGH_SAID {
             self.clear_board();
             return;
         }
-        self.follows -= 1;
         match draw_where(&mut self.board, op, draws, tiles) {
             Ok(()) => {}
             Err(_) => self.clear_board(),
         }
     }
 
-    /// Goes on to another confirmed board, if that needs no drawing. The board stays, if it shows
-    /// what is left of the fork. It takes no memory.
+    /// Goes on to another confirmed board, if that needs no drawing. The board stays if it shows
+    /// what is left of the fork, and much was said lately. It takes no memory.
     fn keep(&mut self, act: &Act<B::Op>, change: Change, own: Own)
         ensures acts { self.new.acts ≡ left_by own self.old.acts }
         ensures fork { is_settled act.now change own self.old.acts ≡ true → (before now : B)
@@ -303,7 +307,7 @@ impl<B: Board> Fork<B> {
             → Became B.drawn before now act.now change → Answers own act.now self.old.acts
             → IsForkOf B.is_board B.drawn now self.new }
     {
-        if self.stays(act, change, own) {
+        if self.said_lately >= ENOUGH_SAID && self.stays(act, change, own) {
             self.forget(own);
         } else {
             self.answer(own);
@@ -312,7 +316,7 @@ impl<B: Board> Fork<B> {
 
     /// Whether the board shows what is left on the board that the act made of the confirmed one.
     fn stays(&self, act: &Act<B::Op>, change: Change, own: Own) -> bool
-        ensures { result ≡ stays act.now change own self.now.acts }
+        ensures { result ≡ board_stays act.now change own self.now.acts }
     {
         change != Change::Rebuilt && own != Own::Lost && self.is_calm(act, own)
     }
