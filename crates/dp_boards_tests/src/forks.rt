@@ -44,6 +44,14 @@ impl Word {
     }
 }
 
+/// How a fork goes on that is quiet.
+#[derive(Clone, Copy)]
+enum Quietly {
+    Settles,
+    Answers,
+    Follows,
+}
+
 /// A client: the confirmed board, the fork, the acts that were taken, and the words that were said
 /// and aren't answered.
 #[derive(Drop)]
@@ -122,19 +130,28 @@ fn take<D: Ledger, T: Ledger>(
     }
 }
 
-/// Goes on with the fork, and once more if memory was refused. Where it is quiet, by its call
-/// that takes no memory, if that is asked.
+/// Goes on with the fork, and once more if memory was refused. Where it is quiet, by the call
+/// that is asked for.
 fn answer<D: Ledger, T: Ledger>(
     painter: &mut Painter,
     (word, own, change): (Word, Own, Change),
-    by_answer: bool,
+    quietly: Quietly,
     draws: &mut Steps<D>,
     tiles: &mut Steps<T>,
 ) -> Result<(), AllocError> {
     let act = word.act();
-    if by_answer && painter.fork.is_quiet(&act, own) {
-        painter.fork.answer(own);
-        return Ok(());
+    if painter.fork.is_quiet(&act, own) {
+        match quietly {
+            Quietly::Settles => {}
+            Quietly::Answers => {
+                painter.fork.answer(own);
+                return Ok(());
+            }
+            Quietly::Follows => {
+                painter.fork.follow(&act, change, own, draws, tiles);
+                return Ok(());
+            }
+        }
     }
     let board = painter.confirmed.board();
     match painter.fork.settle(board, &act, change, own, draws, tiles) {
@@ -148,12 +165,12 @@ fn receive<D: Ledger, T: Ledger>(
     rt: &impl Abort,
     painter: &mut Painter,
     (word, own): (Word, Own),
-    by_answer: bool,
+    quietly: Quietly,
     draws: &mut Steps<D>,
     tiles: &mut Steps<T>,
 ) {
     let change = take(painter, word, draws, tiles).expect(rt, "memory");
-    let answered = answer(painter, (word, own, change), by_answer, draws, tiles);
+    let answered = answer(painter, (word, own, change), quietly, draws, tiles);
     answered.expect(rt, "memory");
     let act = UserAct {
         user: word.user,
@@ -175,7 +192,7 @@ fn step<D: Ledger, T: Ledger>(
     rt: &impl Abort,
     painter: &mut Painter,
     (letters, place): (&str, usize),
-    by_answer: bool,
+    quietly: Quietly,
     draws: &mut Steps<D>,
     tiles: &mut Steps<T>,
 ) {
@@ -202,11 +219,11 @@ fn step<D: Ledger, T: Ledger>(
         }
         b'e' => {
             let first = painter.said.front().copied().expect(rt, "a word said");
-            receive(rt, painter, (first, Own::Echo), by_answer, draws, tiles);
+            receive(rt, painter, (first, Own::Echo), quietly, draws, tiles);
         }
-        b'd' => receive(rt, painter, (other, Own::Dropped), by_answer, draws, tiles),
-        b'l' => receive(rt, painter, (other, Own::Lost), by_answer, draws, tiles),
-        _ => receive(rt, painter, (other, Own::Stranger), by_answer, draws, tiles),
+        b'd' => receive(rt, painter, (other, Own::Dropped), quietly, draws, tiles),
+        b'l' => receive(rt, painter, (other, Own::Lost), quietly, draws, tiles),
+        _ => receive(rt, painter, (other, Own::Stranger), quietly, draws, tiles),
     }
 }
 
@@ -214,7 +231,7 @@ fn step<D: Ledger, T: Ledger>(
 fn check_script<D: Ledger, T: Ledger>(
     rt: &impl Abort,
     alloc: Global,
-    (script, by_answer): (&str, bool),
+    (script, quietly): (&str, Quietly),
     draws: &mut Steps<D>,
     tiles: &mut Steps<T>,
 ) {
@@ -227,7 +244,7 @@ fn check_script<D: Ledger, T: Ledger>(
         said: VecDeque::new(alloc),
     };
     for (place, letters) in script.split_whitespace().enumerate() {
-        step(rt, &mut painter, (letters, place), by_answer, draws, tiles);
+        step(rt, &mut painter, (letters, place), quietly, draws, tiles);
         assert_eq!(rt;
             painter.fork.pending_len(),
             painter.said.len(),
@@ -243,8 +260,8 @@ fn check_script<D: Ledger, T: Ledger>(
 }
 
 /// Scripts: echoes, strangers that meet the fork or don't, undo on both sides, words that were not
-/// permitted, and a fork that is lost.
-static SCRIPTS: [&str; 12] = [
+/// permitted, a fork that is lost, and a painter who says much before others do.
+static SCRIPTS: [&str; 14] = [
     "",
     "sD1 eD1",
     "sP0 sD1 tD2 eP0 eD1",
@@ -257,9 +274,11 @@ static SCRIPTS: [&str; 12] = [
     "sD1 sD2 dD2 eD2 sO0 sD4 dO0 tD4",
     "sD1 sD2 sP0 lO0 tD1 sD1 eD1",
     "tP0 tD1 sD2 sD1 lD1 tU0 sD3 tR0 eD3",
+    "sD1 eD1 sD2 eD2 sD3 eD3 tD2 sD2 eD2 tD1 tD2 tD3 tD4 tD5 sD1 tO0 eD1 tD3",
+    "tP0 sD1 eD1 sD2 eD2 sD3 eD3 tD4 tU0 tR0 sP0 sD2 eP0 eD2 sU0 eU0 tD2 sD5 lD5 tD5",
 ];
 
-/// Runs each script both ways, with counters over these blanks.
+/// Runs each script in all three ways, with counters over these blanks.
 fn check_all<D: Ledger, T: Ledger>(
     rt: &impl Abort,
     alloc: Global,
@@ -274,8 +293,27 @@ fn check_all<D: Ledger, T: Ledger>(
     let mut draws = Steps::<D>::new(draw_blank);
     let mut tiles = Steps::<T>::new(tile_blank);
     for script in &SCRIPTS {
-        check_script(rt, alloc, (*script, false), &mut draws, &mut tiles);
-        check_script(rt, alloc, (*script, true), &mut draws, &mut tiles);
+        check_script(
+            rt,
+            alloc,
+            (*script, Quietly::Settles),
+            &mut draws,
+            &mut tiles,
+        );
+        check_script(
+            rt,
+            alloc,
+            (*script, Quietly::Answers),
+            &mut draws,
+            &mut tiles,
+        );
+        check_script(
+            rt,
+            alloc,
+            (*script, Quietly::Follows),
+            &mut draws,
+            &mut tiles,
+        );
     }
 }
 

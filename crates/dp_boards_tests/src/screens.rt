@@ -260,8 +260,8 @@ fn check_script<B: Board<Op = Draw> + BoardView, D: Ledger, T: Ledger>(
 }
 
 /// Scripts: echoes, strangers that meet the fork or don't, undo on both sides, words that were not
-/// permitted, a fork that is lost, and marks.
-static SCRIPTS: [&str; 11] = [
+/// permitted, a fork that is lost, marks, and a painter who says much before others do.
+static SCRIPTS: [&str; 13] = [
     "",
     "mO0 sZ0 sC0 sD1 eZ0 eC0 eD1",
     "tZ0 tC0 sP0 sD1 tD2 eP0 eD1",
@@ -273,6 +273,8 @@ static SCRIPTS: [&str; 11] = [
     "tZ0 tC0 sD1 sD2 dO0 eD2 sD2 sO0 sD4 dD2 dO0 tD4",
     "tZ0 tC0 tP0 tD1 sD2 sD1 lD1 tU0 sD3 tR0 eD3",
     "tZ0 tC0 tP0 tD1 sD2 mO0 tU0 tZ0 sC0 sD2 tC0 eC0 mO0 tO0",
+    "tZ0 tC0 sD1 eD1 sD2 eD2 sD3 eD3 tD2 sD2 eD2 tD1 tD2 tD3 tD4 tD5 sD1 tO0 eD1 tD3",
+    "tZ0 tC0 sP0 sD2 eP0 eD2 sD3 eD3 tP0 tD4 tU0 tR0 sU0 eU0 tD2 sR0 eR0 sD5 lD5 tD5",
 ];
 
 /// Runs each script on both kinds of board, with counters over these blanks.
