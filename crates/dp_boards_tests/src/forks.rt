@@ -186,8 +186,25 @@ fn receive<D: Ledger, T: Ledger>(
     }
 }
 
+/// Says a word and takes its echo, so often that the fork's board stays from then on.
+fn say_much<D: Ledger, T: Ledger>(
+    rt: &impl Abort,
+    painter: &mut Painter,
+    word: Word,
+    quietly: Quietly,
+    draws: &mut Steps<D>,
+    tiles: &mut Steps<T>,
+) {
+    for _said in 0..130 {
+        say(painter, word, draws, tiles).expect(rt, "memory");
+        painter.said.push_back(word).expect(rt, "memory");
+        receive(rt, painter, (word, Own::Echo), quietly, draws, tiles);
+    }
+}
+
 /// A step by a word of three letters: what comes (s is said, t a stranger's, e an echo, d stands in
-/// place of the first that was said, l has all lost), what it does, and a digit.
+/// place of the first that was said, l has all lost, x is said 130 times and each time answered by
+/// its echo), what it does, and a digit.
 fn step<D: Ledger, T: Ledger>(
     rt: &impl Abort,
     painter: &mut Painter,
@@ -221,6 +238,7 @@ fn step<D: Ledger, T: Ledger>(
             let first = painter.said.front().copied().expect(rt, "a word said");
             receive(rt, painter, (first, Own::Echo), quietly, draws, tiles);
         }
+        b'x' => say_much(rt, painter, own_word, quietly, draws, tiles),
         b'd' => receive(rt, painter, (other, Own::Dropped), quietly, draws, tiles),
         b'l' => receive(rt, painter, (other, Own::Lost), quietly, draws, tiles),
         _ => receive(rt, painter, (other, Own::Stranger), quietly, draws, tiles),
@@ -274,8 +292,8 @@ static SCRIPTS: [&str; 14] = [
     "sD1 sD2 dD2 eD2 sO0 sD4 dO0 tD4",
     "sD1 sD2 sP0 lO0 tD1 sD1 eD1",
     "tP0 tD1 sD2 sD1 lD1 tU0 sD3 tR0 eD3",
-    "sD1 eD1 sD2 eD2 sD3 eD3 tD2 sD2 eD2 tD1 tD2 tD3 tD4 tD5 sD1 tO0 eD1 tD3",
-    "tP0 sD1 eD1 sD2 eD2 sD3 eD3 tD4 tU0 tR0 sP0 sD2 eP0 eD2 sU0 eU0 tD2 sD5 lD5 tD5",
+    "xO0 sD1 eD1 sD2 eD2 sD3 eD3 tD2 sD2 eD2 tD1 tD2 tD3 tD4 tD5 sD1 tO0 eD1 tD3",
+    "xO0 tP0 sD1 eD1 sD2 eD2 sD3 eD3 tD4 tU0 tR0 sP0 sD2 eP0 eD2 sU0 eU0 tD2 sD5 lD5 tD5",
 ];
 
 /// Runs each script in all three ways, with counters over these blanks.

@@ -23,14 +23,16 @@ use std::collections::VecDeque;
 use std::marker::Model;
 use std::sync::ledger::Ledger;
 
-/// What an act that is said counts, and the most that is counted. A stranger's command takes one
-/// off.
-const A_SAY: u32 = 2;
+/// What an act that is said adds to the count of what was said lately, what a stranger's command
+/// takes off, and the most that is counted.
+const A_SAY: u32 = 3;
 
-const MOST_SAID: u32 = 16;
+const A_STRANGER: u32 = 2;
 
-/// From what count on a board stays that shows no command of the fork.
-const ENOUGH_SAID: u32 = 4;
+const MOST_SAID: u32 = 512;
+
+/// From what count on the board stays that shows no command of the fork, until it is down to 0.
+const ENOUGH_SAID: u32 = 384;
 
 /// Acts that are said and aren't answered, in order, and a board that shows their commands on a
 /// confirmed one. It makes a board of its own when there is a command to show. If much was said
@@ -41,6 +43,7 @@ pub struct Fork<B: Board> {
     board: Option<B>,
     acts: VecDeque<Act<B::Op>>,
     said_lately: u32,
+    stays: bool,
 }
 
 impl<B: Board> Model for Fork<B> {
@@ -115,6 +118,7 @@ impl<B: Board> Fork<B> {
             board: None,
             acts: VecDeque::new(alloc),
             said_lately: 0,
+            stays: false,
         }
     }
 
@@ -161,6 +165,7 @@ impl<B: Board> Fork<B> {
         match self.acts.push_back(act) {
             Ok(()) => {
                 self.said_lately = self.said_lately.min(MOST_SAID - A_SAY) + A_SAY;
+                self.stays = self.stays || self.said_lately >= ENOUGH_SAID;
                 Ok(())
             }
             Err(_) => unreachable!(),
@@ -287,8 +292,9 @@ impl<B: Board> Fork<B> {
         ensures counts { CountsFew B.weight (op.now ∷ []) draws.old draws.new tiles.old tiles.new }
     {
         B::laws();
-        self.said_lately = self.said_lately.saturating_sub(1);
-        if self.said_lately < ENOUGH_SAID {
+        self.said_lately = self.said_lately.saturating_sub(A_STRANGER);
+        self.stays = self.stays && self.said_lately > 0;
+        if !self.stays {
             self.clear_board();
             return;
         }
@@ -307,7 +313,7 @@ impl<B: Board> Fork<B> {
             → Became B.drawn before now act.now change → Answers own act.now self.old.acts
             → IsForkOf B.is_board B.drawn now self.new }
     {
-        if self.said_lately >= ENOUGH_SAID && self.stays(act, change, own) {
+        if self.stays && self.shows_rest(act, change, own) {
             self.forget(own);
         } else {
             self.answer(own);
@@ -315,7 +321,7 @@ impl<B: Board> Fork<B> {
     }
 
     /// Whether the board shows what is left on the board that the act made of the confirmed one.
-    fn stays(&self, act: &Act<B::Op>, change: Change, own: Own) -> bool
+    fn shows_rest(&self, act: &Act<B::Op>, change: Change, own: Own) -> bool
         ensures { result ≡ board_stays act.now change own self.now.acts }
     {
         change != Change::Rebuilt && own != Own::Lost && self.is_calm(act, own)

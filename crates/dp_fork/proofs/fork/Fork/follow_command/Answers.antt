@@ -5,8 +5,8 @@ use Rattle.dp_fork.specs.Fork.{Forked, IsForkOf}
 use Rattle.dp_fork.proofs.Settling.{apart_from_none, beside, let_go}
 use Rattle.dp_fork.proofs.fork.Fork.follow_command.Goals as goal
 
-pub returns-then-self-lt-ENOUGH_SAID-clause-fork : goal.returns-then-self-lt-ENOUGH_SAID-clause-fork
-returns-then-self-lt-ENOUGH_SAID-clause-fork g c = λ none before of.
+pub returns-then-not-self-clause-fork : goal.returns-then-not-self-clause-fork
+returns-then-not-self-clause-fork g c = λ none before of.
     subst (IsForkOf g.B.Board.is_board g.B.Board.drawn (g.B.Board.drawn before c.args.op.now))
     (sym c.clear_board.ensures)
     (let_go g.B.Board.is_board g.B.Board.drawn (g.B.Board.drawn before c.args.op.now)
