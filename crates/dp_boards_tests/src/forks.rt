@@ -44,6 +44,14 @@ impl Word {
     }
 }
 
+/// How a fork goes on that is quiet.
+#[derive(Clone, Copy)]
+enum Quietly {
+    Settles,
+    Answers,
+    Follows,
+}
+
 /// A client: the confirmed board, the fork, the acts that were taken, and the words that were said
 /// and aren't answered.
 #[derive(Drop)]
@@ -122,19 +130,28 @@ fn take<D: Ledger, T: Ledger>(
     }
 }
 
-/// Goes on with the fork, and once more if memory was refused. If it is quiet, by its call that
-/// takes no memory, if that is asked.
+/// Goes on with the fork, and once more if memory was refused. If it is quiet, by the call that is
+/// asked for.
 fn answer<D: Ledger, T: Ledger>(
     painter: &mut Painter,
     (word, own, change): (Word, Own, Change),
-    by_answer: bool,
+    quietly: Quietly,
     draws: &mut Steps<D>,
     tiles: &mut Steps<T>,
 ) -> Result<(), AllocError> {
     let act = word.act();
-    if by_answer && painter.fork.is_quiet(&act, own) {
-        painter.fork.answer(own);
-        return Ok(());
+    if painter.fork.is_quiet(&act, own) {
+        match quietly {
+            Quietly::Settles => {}
+            Quietly::Answers => {
+                painter.fork.answer(own);
+                return Ok(());
+            }
+            Quietly::Follows => {
+                painter.fork.follow(&act, change, own, draws, tiles);
+                return Ok(());
+            }
+        }
     }
     let board = painter.confirmed.board();
     match painter.fork.settle(board, &act, change, own, draws, tiles) {
@@ -148,12 +165,12 @@ fn receive<D: Ledger, T: Ledger>(
     rt: &impl Abort,
     painter: &mut Painter,
     (word, own): (Word, Own),
-    by_answer: bool,
+    quietly: Quietly,
     draws: &mut Steps<D>,
     tiles: &mut Steps<T>,
 ) {
     let change = take(painter, word, draws, tiles).expect(rt, "memory");
-    let answered = answer(painter, (word, own, change), by_answer, draws, tiles);
+    let answered = answer(painter, (word, own, change), quietly, draws, tiles);
     answered.expect(rt, "memory");
     let act = UserAct {
         user: word.user,
@@ -169,14 +186,30 @@ fn receive<D: Ledger, T: Ledger>(
     }
 }
 
+/// Says a word and takes its echo, so often that the fork's board stays from then on.
+fn say_much<D: Ledger, T: Ledger>(
+    rt: &impl Abort,
+    painter: &mut Painter,
+    word: Word,
+    quietly: Quietly,
+    draws: &mut Steps<D>,
+    tiles: &mut Steps<T>,
+) {
+    for _said in 0..130 {
+        say(painter, word, draws, tiles).expect(rt, "memory");
+        painter.said.push_back(word).expect(rt, "memory");
+        receive(rt, painter, (word, Own::Echo), quietly, draws, tiles);
+    }
+}
+
 /// A step by a word of three letters: what comes, what it does, and a digit. Of what comes s is
 /// said, t a stranger's and e an echo. A d stands in place of the first that was said, and l has
-/// all lost.
+/// all lost. An x is said 130 times, and each time answered by its echo.
 fn step<D: Ledger, T: Ledger>(
     rt: &impl Abort,
     painter: &mut Painter,
     (letters, place): (&str, usize),
-    by_answer: bool,
+    quietly: Quietly,
     draws: &mut Steps<D>,
     tiles: &mut Steps<T>,
 ) {
@@ -203,11 +236,12 @@ fn step<D: Ledger, T: Ledger>(
         }
         b'e' => {
             let first = painter.said.front().copied().expect(rt, "a word said");
-            receive(rt, painter, (first, Own::Echo), by_answer, draws, tiles);
+            receive(rt, painter, (first, Own::Echo), quietly, draws, tiles);
         }
-        b'd' => receive(rt, painter, (other, Own::Dropped), by_answer, draws, tiles),
-        b'l' => receive(rt, painter, (other, Own::Lost), by_answer, draws, tiles),
-        _ => receive(rt, painter, (other, Own::Stranger), by_answer, draws, tiles),
+        b'x' => say_much(rt, painter, own_word, quietly, draws, tiles),
+        b'd' => receive(rt, painter, (other, Own::Dropped), quietly, draws, tiles),
+        b'l' => receive(rt, painter, (other, Own::Lost), quietly, draws, tiles),
+        _ => receive(rt, painter, (other, Own::Stranger), quietly, draws, tiles),
     }
 }
 
@@ -215,7 +249,7 @@ fn step<D: Ledger, T: Ledger>(
 fn check_script<D: Ledger, T: Ledger>(
     rt: &impl Abort,
     alloc: Global,
-    (script, by_answer): (&str, bool),
+    (script, quietly): (&str, Quietly),
     draws: &mut Steps<D>,
     tiles: &mut Steps<T>,
 ) {
@@ -228,7 +262,7 @@ fn check_script<D: Ledger, T: Ledger>(
         said: VecDeque::new(alloc),
     };
     for (place, letters) in script.split_whitespace().enumerate() {
-        step(rt, &mut painter, (letters, place), by_answer, draws, tiles);
+        step(rt, &mut painter, (letters, place), quietly, draws, tiles);
         assert_eq!(rt;
             painter.fork.pending_len(),
             painter.said.len(),
@@ -244,8 +278,8 @@ fn check_script<D: Ledger, T: Ledger>(
 }
 
 /// Scripts: echoes, strangers that meet the fork or don't, undo on both sides, words that were not
-/// permitted, and a fork that is lost.
-static SCRIPTS: [&str; 12] = [
+/// permitted, a fork that is lost, and a painter who says much before others do.
+static SCRIPTS: [&str; 14] = [
     "",
     "sD1 eD1",
     "sP0 sD1 tD2 eP0 eD1",
@@ -258,9 +292,11 @@ static SCRIPTS: [&str; 12] = [
     "sD1 sD2 dD2 eD2 sO0 sD4 dO0 tD4",
     "sD1 sD2 sP0 lO0 tD1 sD1 eD1",
     "tP0 tD1 sD2 sD1 lD1 tU0 sD3 tR0 eD3",
+    "xO0 sD1 eD1 sD2 eD2 sD3 eD3 tD2 sD2 eD2 tD1 tD2 tD3 tD4 tD5 sD1 tO0 eD1 tD3",
+    "xO0 tP0 sD1 eD1 sD2 eD2 sD3 eD3 tD4 tU0 tR0 sP0 sD2 eP0 eD2 sU0 eU0 tD2 sD5 lD5 tD5",
 ];
 
-/// Runs each script both ways, with counters over these blanks.
+/// Runs each script in all three ways, with counters over these blanks.
 fn check_all<D: Ledger, T: Ledger>(
     rt: &impl Abort,
     alloc: Global,
@@ -275,8 +311,27 @@ fn check_all<D: Ledger, T: Ledger>(
     let mut draws = Steps::<D>::new(draw_blank);
     let mut tiles = Steps::<T>::new(tile_blank);
     for script in &SCRIPTS {
-        check_script(rt, alloc, (*script, false), &mut draws, &mut tiles);
-        check_script(rt, alloc, (*script, true), &mut draws, &mut tiles);
+        check_script(
+            rt,
+            alloc,
+            (*script, Quietly::Settles),
+            &mut draws,
+            &mut tiles,
+        );
+        check_script(
+            rt,
+            alloc,
+            (*script, Quietly::Answers),
+            &mut draws,
+            &mut tiles,
+        );
+        check_script(
+            rt,
+            alloc,
+            (*script, Quietly::Follows),
+            &mut draws,
+            &mut tiles,
+        );
     }
 }
 

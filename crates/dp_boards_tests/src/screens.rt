@@ -178,6 +178,20 @@ fn take<B: Board<Op = Draw> + BoardView, D: Ledger, T: Ledger>(
     }
 }
 
+/// Says a word and takes its echo, so often that the fork's board stays from then on.
+fn say_much<B: Board<Op = Draw> + BoardView, D: Ledger, T: Ledger>(
+    rt: &impl Abort,
+    painter: &mut Painter<B>,
+    word: Word,
+    draws: &mut Steps<D>,
+    tiles: &mut Steps<T>,
+) {
+    for _said in 0..130 {
+        say(rt, painter, word, draws, tiles);
+        take(rt, painter, (word, Own::Echo), draws, tiles);
+    }
+}
+
 /// Begins anew at a mark.
 fn begin_anew<B: Board<Op = Draw> + BoardView, D: Ledger, T: Ledger>(
     painter: &mut Painter<B>,
@@ -200,7 +214,7 @@ fn begin_anew<B: Board<Op = Draw> + BoardView, D: Ledger, T: Ledger>(
 
 /// A step by a word of three letters: what comes, what it does, and a digit. Of what comes s is
 /// said, t a stranger's and e an echo. A d stands in place of the first that was said, l has all
-/// lost, and m is a mark.
+/// lost, and m is a mark. An x is said 130 times, and each time answered by its echo.
 fn step<B: Board<Op = Draw> + BoardView, D: Ledger, T: Ledger>(
     rt: &impl Abort,
     painter: &mut Painter<B>,
@@ -213,7 +227,7 @@ fn step<B: Board<Op = Draw> + BoardView, D: Ledger, T: Ledger>(
         panic!(rt; "{letters} has not three letters");
     };
     let (how, kind, digit) = (*how, *kind, *digit);
-    let user = if how == b's' { 1 } else { 2 };
+    let user = if matches!(how, b's' | b'x') { 1 } else { 2 };
     let word = Word {
         user,
         kind,
@@ -226,6 +240,7 @@ fn step<B: Board<Op = Draw> + BoardView, D: Ledger, T: Ledger>(
             let first = painter.said.front().copied().expect(rt, "a word said");
             take(rt, painter, (first, Own::Echo), draws, tiles);
         }
+        b'x' => say_much(rt, painter, word, draws, tiles),
         b'd' => take(rt, painter, (word, Own::Dropped), draws, tiles),
         b'l' => take(rt, painter, (word, Own::Lost), draws, tiles),
         b'm' => {
@@ -261,8 +276,8 @@ fn check_script<B: Board<Op = Draw> + BoardView, D: Ledger, T: Ledger>(
 }
 
 /// Scripts: echoes, strangers that meet the fork or don't, undo on both sides, words that were not
-/// permitted, a fork that is lost, and marks.
-static SCRIPTS: [&str; 11] = [
+/// permitted, a fork that is lost, marks, and a painter who says much before others do.
+static SCRIPTS: [&str; 13] = [
     "",
     "mO0 sZ0 sC0 sD1 eZ0 eC0 eD1",
     "tZ0 tC0 sP0 sD1 tD2 eP0 eD1",
@@ -274,6 +289,8 @@ static SCRIPTS: [&str; 11] = [
     "tZ0 tC0 sD1 sD2 dO0 eD2 sD2 sO0 sD4 dD2 dO0 tD4",
     "tZ0 tC0 tP0 tD1 sD2 sD1 lD1 tU0 sD3 tR0 eD3",
     "tZ0 tC0 tP0 tD1 sD2 mO0 tU0 tZ0 sC0 sD2 tC0 eC0 mO0 tO0",
+    "tZ0 tC0 xO0 sD1 eD1 sD2 eD2 sD3 eD3 tD2 sD2 eD2 tD1 tD2 tD3 tD4 tD5 sD1 tO0 eD1 tD3",
+    "tZ0 tC0 xO0 sP0 sD2 eP0 eD2 sD3 eD3 tP0 tD4 tU0 tR0 sU0 eU0 tD2 sR0 eR0 sD5 lD5 tD5",
 ];
 
 /// Runs each script on both kinds of board, with counters over these blanks.

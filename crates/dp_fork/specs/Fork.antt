@@ -106,6 +106,18 @@ is_rebuilt Drew = false
 is_rebuilt Rebuilt = true
 is_rebuilt Nothing = false
 
+abbrev pub is_lost : Own → Bool
+is_lost Stranger = false
+is_lost Echo = false
+is_lost Dropped = false
+is_lost Lost = true
+
+-- the fork's board shows what is left of it on the confirmed board that the act made: no group
+-- moved, and the act is calm
+abbrev pub board_stays : {Op : Type 0} → Act Op → Change → Own → List (Act Op) → Bool
+board_stays act change own said =
+    not (is_rebuilt change) && not (is_lost own) && is_calm act own said
+
 -- the fork needs no drawing: no command is left, or no group moved and the act is calm
 abbrev pub is_settled : {Op : Type 0} → Act Op → Change → Own → List (Act Op) → Bool
 is_settled act change own said =

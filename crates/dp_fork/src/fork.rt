@@ -10,8 +10,9 @@ ghost use Rattle.dp_board.specs.Commands.{command_of};
 ghost use Rattle.dp_board.specs.Moves.{is_draw};
 ghost use Rattle.dp_board.specs.Counts.{CountsFew};
 ghost use Rattle.dp_fork.specs.Fork.{Answers, Became, IsForkOf, MovesBy, Shows};
-ghost use Rattle.dp_fork.specs.Fork.{commands_in, due_on_fork, is_calm, is_quiet, is_settled};
-ghost use Rattle.dp_fork.specs.Fork.{is_apart, is_rebuilt, is_stranger, left_by, seen_on};
+ghost use Rattle.dp_fork.specs.Fork.{board_stays, commands_in, due_on_fork, is_calm, is_quiet};
+ghost use Rattle.dp_fork.specs.Fork.{is_apart, is_rebuilt, is_settled, is_stranger, left_by};
+ghost use Rattle.dp_fork.specs.Fork.{seen_on};
 
 use crate::own::Own;
 use crate::pending::{draw_from, has_command, is_apart, is_draw, may_move};
@@ -22,12 +23,27 @@ use std::collections::VecDeque;
 use std::marker::Model;
 use std::sync::ledger::Ledger;
 
+/// What an act that is said adds to the count of what was said lately, what a stranger's command
+/// takes off, and the most that is counted.
+const A_SAY: u32 = 3;
+
+const A_STRANGER: u32 = 2;
+
+const MOST_SAID: u32 = 512;
+
+/// From what count on the board stays that shows no command of the fork, until it is down to 0.
+const ENOUGH_SAID: u32 = 384;
+
 /// Acts that are said and aren't answered, in order, and a board that shows their commands on a
-/// confirmed one. It has a board of its own only while there is a command to show.
+/// confirmed one. It makes a board of its own when there is a command to show. If much was said
+/// lately the board stays when that is answered, and follows the confirmed one. So the next command
+/// is drawn on tiles that are the board's alone.
 #[derive(Drop)]
 pub struct Fork<B: Board> {
     board: Option<B>,
     acts: VecDeque<Act<B::Op>>,
+    said_lately: u32,
+    stays: bool,
 }
 
 impl<B: Board> Model for Fork<B> {
@@ -101,6 +117,8 @@ impl<B: Board> Fork<B> {
         Fork {
             board: None,
             acts: VecDeque::new(alloc),
+            said_lately: 0,
+            stays: false,
         }
     }
 
@@ -145,7 +163,11 @@ impl<B: Board> Fork<B> {
         self.acts.reserve(1)?;
         show(&mut self.board, confirmed, &act, draws, tiles)?;
         match self.acts.push_back(act) {
-            Ok(()) => Ok(()),
+            Ok(()) => {
+                self.said_lately = self.said_lately.min(MOST_SAID - A_SAY) + A_SAY;
+                self.stays = self.stays || self.said_lately >= ENOUGH_SAID;
+                Ok(())
+            }
             Err(_) => unreachable!(),
         }
     }
@@ -226,6 +248,83 @@ impl<B: Board> Fork<B> {
         if !has_command(&self.acts, 0) {
             self.clear_board();
         }
+    }
+
+    /// Goes on to the board that an act made of the confirmed one, if the fork needs no drawing for
+    /// that. If much was said lately its board stays, and a stranger's command is drawn on it too.
+    pub fn follow<D: Ledger, T: Ledger>(
+        &mut self,
+        act: &Act<B::Op>,
+        change: Change,
+        own: Own,
+        draws: &mut Steps<D>,
+        tiles: &mut Steps<T>,
+    )
+        ensures acts { self.new.acts ≡ left_by own self.old.acts }
+        ensures fork { is_settled act.now change own self.old.acts ≡ true → (before now : B)
+            → IsForkOf B.is_board B.drawn before self.old → B.is_board now
+            → Became B.drawn before now act.now change → Answers own act.now self.old.acts
+            → IsForkOf B.is_board B.drawn now self.new }
+        ensures counts { CountsFew B.weight
+            (due_on_fork B.are_apart act.now change own self.old.acts) draws.old draws.new
+            tiles.old tiles.new }
+    {
+        match act {
+            Act::Draw(op) if self.is_beside(op, change, own) => {
+                self.follow_command(op, draws, tiles)
+            }
+            _ => self.keep(act, change, own),
+        }
+    }
+
+    /// Goes on to the confirmed board with a stranger's command, if no command is left. The board
+    /// has it drawn too, or is let go.
+    fn follow_command<D: Ledger, T: Ledger>(
+        &mut self,
+        op: &B::Op,
+        draws: &mut Steps<D>,
+        tiles: &mut Steps<T>,
+    )
+        ensures acts { self.new.acts ≡ self.old.acts }
+        ensures fork { list_any is_draw self.old.acts ≡ false → (before : B)
+            → IsForkOf B.is_board B.drawn before self.old
+            → IsForkOf B.is_board B.drawn (B.drawn before op.now) self.new }
+        ensures counts { CountsFew B.weight (op.now ∷ []) draws.old draws.new tiles.old tiles.new }
+    {
+        B::laws();
+        self.said_lately = self.said_lately.saturating_sub(A_STRANGER);
+        self.stays = self.stays && self.said_lately > 0;
+        if !self.stays {
+            self.clear_board();
+            return;
+        }
+        match draw_where(&mut self.board, op, draws, tiles) {
+            Ok(()) => {}
+            Err(_) => self.clear_board(),
+        }
+    }
+
+    /// Goes on to another confirmed board, if that needs no drawing. The board stays if it shows
+    /// what is left of the fork, and much was said lately. It takes no memory.
+    fn keep(&mut self, act: &Act<B::Op>, change: Change, own: Own)
+        ensures acts { self.new.acts ≡ left_by own self.old.acts }
+        ensures fork { is_settled act.now change own self.old.acts ≡ true → (before now : B)
+            → IsForkOf B.is_board B.drawn before self.old → B.is_board now
+            → Became B.drawn before now act.now change → Answers own act.now self.old.acts
+            → IsForkOf B.is_board B.drawn now self.new }
+    {
+        if self.stays && self.shows_rest(act, change, own) {
+            self.forget(own);
+        } else {
+            self.answer(own);
+        }
+    }
+
+    /// Whether the board shows what is left on the board that the act made of the confirmed one.
+    fn shows_rest(&self, act: &Act<B::Op>, change: Change, own: Own) -> bool
+        ensures { result ≡ board_stays act.now change own self.now.acts }
+    {
+        change != Change::Rebuilt && own != Own::Lost && self.is_calm(act, own)
     }
 
     /// Lets the board go.

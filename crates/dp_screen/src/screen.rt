@@ -147,9 +147,9 @@ impl<B: Board> Screen<B> {
             tiles.new }
     {
         replay_goes_on::<B, B::Op>();
-        let _change = self.confirmed.take(user, act, draws, tiles)?;
+        let change = self.confirmed.take(user, act, draws, tiles)?;
         self.confirmed.board().known();
-        self.fork.answer(own);
+        self.fork.follow(act, change, own, draws, tiles);
         Ok(())
     }
 
