@@ -28,7 +28,7 @@ pub returns-in_err-settle-clause-err : goal.returns-in_err-settle-clause-err
 returns-in_err-settle-clause-err g c =
     let inside = c.self.inside in
     always_on_err c.from_residual.result _
-    (same_layer c.args.self.now inside.width inside.height [] inside.lists c.settle.new.lists
+    (same_layer c.args.self.now inside.width inside.height inside.images.items inside.lists c.settle.new.lists
     inside.grid c.settle.new.grid c.self.view_is
     (rw (c.in_err-settle.ensures.err_lists, c.in_err-settle.ensures.err) refl))
 
@@ -41,16 +41,16 @@ returns-clause-ok g c =
     let is_of = c.self.invariant.0 in
     on_ok_weaker c.draw_in_place.result
     (λ painted.
-    layer_after c.args.self.now inside.width inside.height [] op inside.lists c.settle.new.lists
+    layer_after c.args.self.now inside.width inside.height inside.images.items op inside.lists c.settle.new.lists
     inside.grid c.draw_in_place.new.grid c.self.view_is
-    (drawn_under inside.width inside.height [] op c.pixels_stay_outside_the_foot.ensures
+    (drawn_under inside.width inside.height inside.images.items op c.pixels_stay_outside_the_foot.ensures
     c.the_foot_tells_all.ensures is_of.wide is_of.high c.args.area c.settle.new.lists
     c.settle.new.grid c.draw_in_place.new.grid
     (λ x y in_x in_y f. c.requires.all x y (rw (sym wide) in_x) (rw (sym high) in_y) f)
     (λ col row i. ap (λ (w : Waiting). w.ops) (c.in_ok-settle.ensures.none.inside col row i))
     painted
     ∙ ap (pixels_after inside.width inside.height op)
-    (settled inside.width inside.height [] c.args.area inside.lists c.settle.new.lists inside.grid
+    (settled inside.width inside.height inside.images.items c.args.area inside.lists c.settle.new.lists inside.grid
     c.settle.new.grid is_of c.in_ok-settle.ensures.painted c.in_ok-settle.ensures.none)))
     c.draw_in_place.ensures.pixels
 
@@ -59,9 +59,9 @@ returns-clause-err g c =
     let inside = c.self.inside in
     on_err_weaker c.draw_in_place.result
     (λ same.
-    same_layer c.args.self.now inside.width inside.height [] inside.lists c.settle.new.lists
+    same_layer c.args.self.now inside.width inside.height inside.images.items inside.lists c.settle.new.lists
     inside.grid c.draw_in_place.new.grid c.self.view_is
-    (rw same (settled inside.width inside.height [] c.args.area inside.lists c.settle.new.lists
+    (rw same (settled inside.width inside.height inside.images.items c.args.area inside.lists c.settle.new.lists
     inside.grid c.settle.new.grid c.self.invariant.0 c.in_ok-settle.ensures.painted
     c.in_ok-settle.ensures.none)))
     c.draw_in_place.ensures.err

@@ -20,9 +20,9 @@ returns c =
     let inside = c.self.inside in
     let ops = c.ops-op-items.result.now in
     let end : length ops ≤ c.loop-op.op-index = omega arith in
-    pixel_of_layer c.args.self.now inside.width inside.height [] inside.lists inside.grid ops
+    pixel_of_layer c.args.self.now inside.width inside.height inside.images.items inside.lists inside.grid ops
     c.loop-op.op-index c.args.x c.args.y c.get-pixel.result c.loop-op.pixel c.self.view_is
     c.ops-op-items.ensures end c.get-pixel.ensures
     (c.loop-op.invariant
-    (on_tile inside.width inside.height [] (c.args.x / 64) (c.args.y / 64)) refl) c.requires.across
+    (on_tile inside.width inside.height inside.images.items (c.args.x / 64) (c.args.y / 64)) refl) c.requires.across
     c.requires.down

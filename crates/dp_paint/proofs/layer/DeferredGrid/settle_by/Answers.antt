@@ -9,11 +9,11 @@ pub returns-clause-same : goal.returns-clause-same
 returns-clause-same g c =
     let inside = c.self.inside in
     let is_of = c.self.invariant.0 in
-    same_layer c.args.self.now inside.width inside.height [] inside.lists c.new.result inside.grid
+    same_layer c.args.self.now inside.width inside.height inside.images.items inside.lists c.new.result inside.grid
     c.settle_all.new.grid c.self.view_is
-    (no_lists inside.width inside.height [] c.new.result c.settle_all.new.grid
+    (no_lists inside.width inside.height inside.images.items c.new.result c.settle_all.new.grid
     (ap (λ (l : Lists). l.lists) c.new.ensures)
-    ∙ sym (none_waits inside.width inside.height [] c.settle_all.new.lists c.settle_all.new.grid
+    ∙ sym (none_waits inside.width inside.height inside.images.items c.settle_all.new.lists c.settle_all.new.grid
     is_of.wide is_of.high c.in_ok-settle_all.ensures.none)
     ∙ c.in_ok-settle_all.ensures.same)
 
@@ -24,7 +24,7 @@ returns-clause-few_tiles g c =
 pub returns-in_err-settle_all-clause-same : goal.returns-in_err-settle_all-clause-same
 returns-in_err-settle_all-clause-same g c =
     let inside = c.self.inside in
-    same_layer c.args.self.now inside.width inside.height [] inside.lists c.settle_all.new.lists
+    same_layer c.args.self.now inside.width inside.height inside.images.items inside.lists c.settle_all.new.lists
     inside.grid c.settle_all.new.grid c.self.view_is c.settle_all.ensures.same
 
 pub returns-in_err-settle_all-clause-few_tiles : goal.returns-in_err-settle_all-clause-few_tiles
