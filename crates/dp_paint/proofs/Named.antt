@@ -1,8 +1,8 @@
 -- Commands that wait by their numbers, if others come after them.
 use Rattle.std.proofs.Common.{◌≡◌, ℕ, ◌+◌, ◌*◌, ◌/◌, ◌%◌, ◌<◌, ◌≤◌, List, [], ◌∷◌, ◌++◌, length}
-use Rattle.std.proofs.Common.{ap, sym, ◌∙◌, refl, true, false, arith, ⊎_elim, inl, inr}
+use Rattle.std.proofs.Common.{ap, sym, ◌∙◌, refl, true, false, arith, subst, ⊎_elim, inl, inr}
 use Rattle.std.specs.Prelude.{pos, Some, slice_get}
-use Rattle.std.proofs.lemmas.Bool.{cases_Bool, false≢true}
+use Rattle.std.proofs.lemmas.Bool.{cases_Bool, cases_lt, false≢true}
 use Rattle.std.proofs.lemmas.List.{append_assoc}
 use Rattle.dp_blend.specs.Color.{Channels}
 use Rattle.dp_blend.proofs.Canvas.{canvas_of-same}
@@ -19,7 +19,8 @@ use Rattle.dp_paint.specs.Ops.{OnTile, on_tile, ops_at}
 use Rattle.dp_paint.specs.Lists.{HaveSame, HaveSome, IsChangedOn, IsFiled, IsFinished, IsInside}
 use Rattle.dp_paint.specs.Lists.{IsNumbered, LayerOf, Lists, NamesThese, Waiting, layer_pixels}
 use Rattle.dp_paint.specs.Lists.{listed_at, waiting_pixel}
-use Rattle.dp_paint.proofs.Layers.{filed_layer, layer_after, layer_of, nothing}
+use Rattle.dp_paint.proofs.Layers.{filed_layer, layer_after, layer_of, nothing, same_layer}
+use Rattle.dp_paint.proofs.Layers.{same_pixels}
 use Rattle.dp_paint.proofs.Painting.{StaysOutside}
 use Rattle.dp_paint.proofs.Waits.{inside_by, inside_facts}
 
@@ -38,6 +39,15 @@ cleared_some area old new is col row few below =
     (is.outside col row few (λ i. false≢true (sym t ∙ inside_by area col row i)))))
     (cases_Bool (is_in_cells area col row))
 
+-- where the rows before one are done
+pub done_some : (to : ℕ) (old new : Lists)
+    → ((col row : ℕ) → col < 64 → row < to → listed_at new col row ≡ [])
+    → ((col row : ℕ) → col < 64 → to ≤ row → listed_at new col row ≡ listed_at old col row)
+    → HaveSome old new
+done_some to old new none rest col row few below =
+    ⊎_elim (λ (above : row < to). inl (none col row few above))
+    (λ here. inr (rest col row few here)) (cases_lt row to)
+
 -- they name no other commands
 pub some_name : (width height : ℕ) (commands : List Draw) (old new : Lists) → width ≤ 4096
     → height ≤ 4096 → HaveSome old new → NamesThese width height commands old
@@ -50,6 +60,14 @@ some_name width height commands old new wide high some names more x y p in_x in_
     ap (at (commands ++ more)) same ∙ names more x y p in_x in_y ∙ sym (ap (at commands) same))
     (some (x / 64) (y / 64) (omega (arith, in_x, wide)) (omega (arith, in_y, high)))
 
+-- and so with equal commands
+pub shared_names : (width height : ℕ) (commands same : List Draw) (old new : Lists)
+    → width ≤ 4096 → height ≤ 4096 → same ≡ commands → HaveSome old new
+    → NamesThese width height commands old → NamesThese width height same new
+shared_names width height commands same old new wide high is some names =
+    subst (λ (cs : List Draw). NamesThese width height cs new) (sym is)
+    (some_name width height commands old new wide high some names)
+
 -- nothing waits, so no command is named
 pub none_names : (width height : ℕ) (commands : List Draw) (lists : Lists) → lists.lists ≡ []
     → NamesThese width height commands lists
@@ -58,6 +76,25 @@ none_names width height commands lists none more x y p in_x in_y =
     ops_at (on_tile width height all (x / 64) (y / 64)) ops (x % 64) (y % 64) p in
     let empty = nothing lists none (x / 64) (y / 64) in
     ap (at (commands ++ more)) empty ∙ sym (ap (at commands) empty)
+
+-- ---- layers
+
+-- the layer of equal commands
+pub by_commands : (layer : LayerOf) (width height : ℕ) (commands same : List Draw)
+    (lists : Lists) (g : TileGrid) → same ≡ commands
+    → layer_of width height commands lists g ≡ layer
+    → layer_of width height same lists g ≡ layer
+by_commands layer width height commands same lists g is view =
+    subst (λ (cs : List Draw). layer_of width height cs lists g ≡ layer) (sym is) view
+
+-- the layer of other commands, lists and another grid with the same pixels
+pub other_layer : (layer : LayerOf) (width height : ℕ) (commands others : List Draw)
+    (old new : Lists) (g h : TileGrid) → layer_of width height commands old g ≡ layer
+    → layer_pixels width height others new h ≡ layer_pixels width height commands old g
+    → layer_of width height others new h ≡ layer
+other_layer layer width height commands others old new g h view same =
+    ap (λ (ps : List Channels). record { width = width; height = height; pixels = ps }) same
+    ∙ view
 
 -- ---- a command that was filed
 
@@ -173,3 +210,57 @@ module _ (width height : ℕ) (commands : List Draw) (op : Draw) (area : CellAre
       (filed_layer width height (commands ++ op ∷ [])
       (IsNumbered width height (length commands) op) op law is
       (last_numbered width height commands op) area old new g wide high covers filed)
+
+-- commands of which the last was filed by its number
+module _ (layer : LayerOf) (width height : ℕ) (commands all : List Draw) (op : Draw)
+    (number : ℕ) (area : CellArea) (old new : Lists) (wide : width ≤ 4096) (high : height ≤ 4096)
+    (is_all : all ≡ commands ++ op ∷ []) (is_number : number ≡ length commands)
+    (names : NamesThese width height commands old)
+    (filed : IsFiled (IsNumbered width height number op) op area old new) where
+  at_last : IsFiled (IsNumbered width height (length commands) op) op area old new
+  at_last =
+      subst (λ (n : ℕ). IsFiled (IsNumbered width height n op) op area old new) is_number filed
+
+  pub pushed_names : NamesThese width height all new
+  pushed_names =
+      subst (λ (cs : List Draw). NamesThese width height cs new) (sym is_all)
+      (last_names width height commands op area old new wide names at_last)
+
+  pub pushed_layer : (g : TileGrid) → StaysOutside → IsPainting op
+      → ((x y : ℕ) → x < width → y < height → is_in_foot (foot op) (pos x) (pos y) ≡ true
+      → is_in_cells area (x / 64) (y / 64) ≡ true)
+      → layer_of width height commands old g ≡ layer
+      → layer_of width height all new g
+      ≡ record {
+        width = layer.width;
+        height = layer.height;
+        pixels = pixels_after layer.width layer.height op layer.pixels;
+      }
+  pushed_layer g law is covers view =
+      subst (λ (cs : List Draw). layer_of width height cs new g
+      ≡ record {
+        width = layer.width;
+        height = layer.height;
+        pixels = pixels_after layer.width layer.height op layer.pixels;
+      }) (sym is_all)
+      (last_layer width height commands op area old new wide names at_last layer g law is high
+      covers view)
+
+-- and one that wasn't filed
+module _ (layer : LayerOf) (width height : ℕ) (commands all : List Draw) (op : Draw)
+    (old new : Lists) (wide : width ≤ 4096) (high : height ≤ 4096)
+    (is_all : all ≡ commands ++ op ∷ []) (names : NamesThese width height commands old)
+    (same : HaveSame old new) where
+  pub kept_names : NamesThese width height all new
+  kept_names =
+      subst (λ (cs : List Draw). NamesThese width height cs new) (sym is_all)
+      (some_name width height (commands ++ op ∷ []) old new wide high (same_some old new same)
+      (more_names width height commands op old names))
+
+  pub kept_layer : (g : TileGrid) → layer_of width height commands old g ≡ layer
+      → layer_of width height all new g ≡ layer
+  kept_layer g view =
+      subst (λ (cs : List Draw). layer_of width height cs new g ≡ layer) (sym is_all)
+      (same_layer layer width height (commands ++ op ∷ []) old new g g
+      (more_layer layer width height commands op old g names view)
+      (same_pixels width height (commands ++ op ∷ []) old new g wide same))

@@ -1,7 +1,7 @@
 //! Operations on one tile.
 
 ghost use Rattle.std.specs.Prelude.{◌≡◌, [], ◌∷◌, ℕ, ◌<◌, true, length, IfSome, pos, ◌+ℤ◌, ◌-ℤ◌};
-ghost use Rattle.std.specs.Prelude.{◌≤ℤ◌, ◌<ℤ◌};
+ghost use Rattle.std.specs.Prelude.{◌≤ℤ◌, ◌<ℤ◌, ◌/◌, ◌%◌};
 ghost use Rattle.dp_blend.specs.Color.{Channels, of_argb};
 ghost use Rattle.dp_paint.specs.Ops.{IsPackable, OnTile, code_of, dab_at, dab_in_tile, fill_at};
 ghost use Rattle.dp_paint.specs.Ops.{is_in_fill, mode_coded, on_tile, op_at, packed_dab};

@@ -1,8 +1,7 @@
 //! Commands that operations name by their numbers.
 
 ghost use Rattle.std.specs.Prelude.{◌≡◌, [], ◌∷◌, ◌<◌, ◌/◌, ◌%◌, length, slice_get, IfSome, IfNone};
-ghost use Rattle.std.specs.Prelude.{Some};
-ghost use Rattle.std.specs.Prelude.{None};
+ghost use Rattle.std.specs.Prelude.{Some, None};
 ghost use Rattle.dp_paint.specs.Ops.{command_at, on_tile, tile_after};
 
 use crate::op::TileOp;
