@@ -62,7 +62,8 @@ returns-clause-ok g c =
     (λ col row i. ap (λ (w : Waiting). w.ops) (c.in_ok-settle.ensures.none.inside col row i))
     after
     ∙ ap (pixels_after inside.width inside.height op)
-    (settled inside.width inside.height images c.args.area inside.lists c.settle.new.lists inside.grid
+    (settled inside.width inside.height images c.args.area inside.lists c.settle.new.lists
+    inside.grid
     c.settle.new.grid is_of painted c.in_ok-settle.ensures.none)))
     c.draw_in_place.ensures.pixels
 

@@ -39,10 +39,10 @@ returns-clause-ok g c =
     let is_of = c.self.invariant.0 in
     on_ok_weaker c.file.result
     (λ filed.
-    layer_after c.args.self.now inside.width inside.height inside.images.items op inside.lists c.file.new.lists
-    inside.grid inside.grid view
-    (filed_layer inside.width inside.height inside.images.items anywhere op c.pixels_stay_outside_the_foot.ensures
-    (waits_paint op c.requires.command) (λ col row. tt) c.args.area inside.lists c.file.new.lists
+    layer_after c.args.self.now inside.width inside.height inside.images.items op inside.lists
+    c.file.new.lists inside.grid inside.grid view
+    (filed_layer inside.width inside.height inside.images.items anywhere op
+    c.pixels_stay_outside_the_foot.ensures (waits_paint op c.requires.command) (λ col row. tt) c.args.area inside.lists c.file.new.lists
     inside.grid is_of.wide is_of.high
     (λ x y in_x in_y f. c.requires.all x y (rw (sym wide) in_x) (rw (sym high) in_y) f) filed))
     c.file.ensures.filed
@@ -52,8 +52,8 @@ returns-clause-err g c =
     let inside = c.self.inside in
     on_err_weaker c.file.result
     (λ same.
-    same_layer c.args.self.now inside.width inside.height inside.images.items inside.lists c.file.new.lists
-    inside.grid inside.grid (c.self.view_is ∙ c.in_ok-make_room.ensures.same)
-    (same_pixels inside.width inside.height inside.images.items inside.lists c.file.new.lists inside.grid
-    c.self.invariant.0.wide same))
+    same_layer c.args.self.now inside.width inside.height inside.images.items inside.lists
+    c.file.new.lists inside.grid inside.grid (c.self.view_is ∙ c.in_ok-make_room.ensures.same)
+    (same_pixels inside.width inside.height inside.images.items inside.lists c.file.new.lists
+    inside.grid c.self.invariant.0.wide same))
     c.file.ensures.same

@@ -16,7 +16,8 @@ invariant_of-self-2 g c =
     let names = c.self.invariant.3 in
     let is_all : all ≡ before ++ op ∷ [] = c.in_ok-push.ensures.items
     ∙ ap (λ (d : Draw). before ++ d ∷ []) c.in_ok-copy.ensures.same in
-    let is_number : c.len-number.result ≡ length before = omega (arith, inside.images.ok, c.len-number.ensures) in
+    let is_number : c.len-number.result ≡ length before =
+    omega (arith, inside.images.ok, c.len-number.ensures) in
     let old = inside.lists in
     let new = c.file_number.new.lists in (
       is_of,
@@ -46,7 +47,8 @@ returns-clause-ok g c =
     let is_of = c.self.invariant.0 in
     let is_all : all ≡ before ++ op ∷ [] = c.in_ok-push.ensures.items
     ∙ ap (λ (d : Draw). before ++ d ∷ []) c.in_ok-copy.ensures.same in
-    let is_number : c.len-number.result ≡ length before = omega (arith, inside.images.ok, c.len-number.ensures) in
+    let is_number : c.len-number.result ≡ length before =
+    omega (arith, inside.images.ok, c.len-number.ensures) in
     on_ok_weaker c.file_number.result
     (λ filed.
     pushed_layer c.args.self.now inside.width inside.height before all op c.len-number.result
