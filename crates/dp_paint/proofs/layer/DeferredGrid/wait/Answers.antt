@@ -42,7 +42,8 @@ returns-clause-ok g c =
     layer_after c.args.self.now inside.width inside.height inside.images.items op inside.lists
     c.file.new.lists inside.grid inside.grid view
     (filed_layer inside.width inside.height inside.images.items anywhere op
-    c.pixels_stay_outside_the_foot.ensures (waits_paint op c.requires.command) (λ col row. tt) c.args.area inside.lists c.file.new.lists
+    c.pixels_stay_outside_the_foot.ensures (waits_paint op c.requires.command)
+    (λ col row. tt) c.args.area inside.lists c.file.new.lists
     inside.grid is_of.wide is_of.high
     (λ x y in_x in_y f. c.requires.all x y (rw (sym wide) in_x) (rw (sym high) in_y) f) filed))
     c.file.ensures.filed
