@@ -67,7 +67,7 @@ same_pixels width height commands old new g wide same =
     (same (x / 64) (y / 64) (omega (arith, in_x, wide))))
 
 -- nothing waits if there is no list
-pub nothing : (lists : Lists) → lists.lists ≡ [] → (col row : ℕ) → listed_at lists col row ≡ []
+nothing : (lists : Lists) → lists.lists ≡ [] → (col row : ℕ) → listed_at lists col row ≡ []
 nothing lists none col row = rw none (either (leb lists.first row))
   where
     either : (t : Bool) → (cond t no_list no_list).ops ≡ []

@@ -1,6 +1,6 @@
 -- Commands that wait by their numbers, if others come after them.
 use Rattle.std.proofs.Common.{◌≡◌, ℕ, ◌+◌, ◌*◌, ◌/◌, ◌%◌, ◌<◌, ◌≤◌, List, [], ◌∷◌, ◌++◌, length}
-use Rattle.std.proofs.Common.{ap, sym, ◌∙◌, refl, true, false, arith, subst, ⊎_elim, inl, inr}
+use Rattle.std.proofs.Common.{ap, sym, ◌∙◌, refl, true, arith, subst, ⊎_elim, inl, inr}
 use Rattle.std.specs.Prelude.{pos, Some, slice_get}
 use Rattle.std.proofs.lemmas.Bool.{cases_Bool, cases_lt, false≢true}
 use Rattle.std.proofs.lemmas.List.{append_assoc}
@@ -16,11 +16,10 @@ use Rattle.dp_paint.specs.declared.op.TileOp.{TileOp}
 use Rattle.dp_paint.specs.declared.lists.Finish.TheVariants.{Clear}
 use Rattle.dp_paint.specs.Painting.{IsPainting}
 use Rattle.dp_paint.specs.Ops.{OnTile, on_tile, ops_at}
-use Rattle.dp_paint.specs.Lists.{HaveSame, HaveSome, IsChangedOn, IsFiled, IsFinished, IsInside}
+use Rattle.dp_paint.specs.Lists.{HaveSame, HaveSome, IsChangedOn, IsFiled, IsFinished}
 use Rattle.dp_paint.specs.Lists.{IsNumbered, LayerOf, Lists, NamesThese, Waiting, layer_pixels}
 use Rattle.dp_paint.specs.Lists.{listed_at, waiting_pixel}
-use Rattle.dp_paint.proofs.Layers.{filed_layer, layer_after, layer_of, nothing, same_layer}
-use Rattle.dp_paint.proofs.Layers.{same_pixels}
+use Rattle.dp_paint.proofs.Layers.{filed_layer, layer_after, layer_of, same_layer, same_pixels}
 use Rattle.dp_paint.proofs.Painting.{StaysOutside}
 use Rattle.dp_paint.proofs.Waits.{inside_by, inside_facts}
 
@@ -59,23 +58,6 @@ some_name width height commands old new wide high some names more x y p in_x in_
     (λ same.
     ap (at (commands ++ more)) same ∙ names more x y p in_x in_y ∙ sym (ap (at commands) same))
     (some (x / 64) (y / 64) (omega (arith, in_x, wide)) (omega (arith, in_y, high)))
-
--- and so with equal commands
-pub shared_names : (width height : ℕ) (commands same : List Draw) (old new : Lists)
-    → width ≤ 4096 → height ≤ 4096 → same ≡ commands → HaveSome old new
-    → NamesThese width height commands old → NamesThese width height same new
-shared_names width height commands same old new wide high is some names =
-    subst (λ (cs : List Draw). NamesThese width height cs new) (sym is)
-    (some_name width height commands old new wide high some names)
-
--- nothing waits, so no command is named
-pub none_names : (width height : ℕ) (commands : List Draw) (lists : Lists) → lists.lists ≡ []
-    → NamesThese width height commands lists
-none_names width height commands lists none more x y p in_x in_y =
-    let at : List Draw → List TileOp → Channels = λ all ops.
-    ops_at (on_tile width height all (x / 64) (y / 64)) ops (x % 64) (y % 64) p in
-    let empty = nothing lists none (x / 64) (y / 64) in
-    ap (at (commands ++ more)) empty ∙ sym (ap (at commands) empty)
 
 -- ---- layers
 

@@ -1,5 +1,6 @@
 use Rattle.std.proofs.Common.{◌∙◌, List, ap, refl, subst, sym}
 use Rattle.dp_msg_draw.specs.declared.draw.Draw.{Draw}
+use Rattle.dp_tile.specs.declared.area.CellArea.{CellArea}
 use Rattle.dp_tile.specs.Areas.{IsPaintedOn}
 use Rattle.dp_paint.specs.Lists.{Lists, waiting_tile}
 use Rattle.dp_paint.specs.Painting.{IsGridOf}
@@ -13,6 +14,8 @@ returns-clause-resized g c =
     let change = c.args.change in
     let images = inside.images.items in
     let left = c.new.result.items in
+    let area : CellArea =
+    record { left = 0; right = c.cols.result; top = 0; bottom = c.rows.result } in
     let lists = c.new-2.result in
     let none = ap (λ (l : Lists). l.lists) c.new-2.ensures in
     let new = c.in_ok-resized_grid.field-0 in
@@ -20,11 +23,11 @@ returns-clause-resized g c =
     (resized_layer c.args.self.now change inside.width inside.height images inside.lists lists
     inside.grid c.in_ok-grid.grid c.paint_lists.new.grid new c.self.view_is c.in_ok-grid.ensures
     c.requires.wide c.requires.high
-    (all_painted inside.width inside.height images _ inside.lists c.in_ok-grid.grid
+    (all_painted inside.width inside.height images area inside.lists c.in_ok-grid.grid
     c.paint_lists.new.grid
     (subst (IsGridOf inside.width inside.height) (sym c.in_ok-grid.ensures) c.self.invariant.0) refl
     c.cols.ensures refl c.rows.ensures
-    (subst (λ (cs : List Draw). IsPaintedOn _
+    (subst (λ (cs : List Draw). IsPaintedOn area
     (waiting_tile inside.width inside.height cs inside.lists) c.in_ok-grid.grid
     c.paint_lists.new.grid) c.deref.ensures.value c.in_ok-paint_lists.ensures.painted))
     none c.in_ok-resized_grid.ensures.resized)
