@@ -1,13 +1,16 @@
 -- The pixels of a tile after a command.
-use Rattle.std.proofs.Common.{◌≡◌, ℕ, ◌+◌, ◌*◌, ◌<◌, List, [], ◌∷◌, length, refl, ◌∙◌}
+use Rattle.std.proofs.Common.{◌≡◌, ℕ, ◌+◌, ◌*◌, ◌/◌, ◌%◌, ◌<◌, List, [], ◌∷◌, length, refl, ◌∙◌}
+use Rattle.std.proofs.Common.{arith, get_or}
 use Rattle.std.specs.Prelude.{pos, slice_get, Some, None}
 use Rattle.dp_blend.specs.Color.{Channels}
 use Rattle.dp_blend.specs.Canvas.{pixel_at}
 use Rattle.dp_blend.proofs.Canvas.{is_canvas_of, pixel_at-canvas_of}
 use Rattle.dp_msg_draw.specs.declared.draw.Draw.{Draw}
 use Rattle.dp_pixels.specs.Commands.{pixel_drawn}
+use Rattle.dp_pixels.specs.Regions.{IsPainted}
+use Rattle.dp_pixels.specs.declared.region.Region.{Region}
 use Rattle.dp_paint.specs.declared.op.TileOp.TheVariants.{Command}
-use Rattle.dp_paint.specs.Ops.{on_tile, tile_after}
+use Rattle.dp_paint.specs.Ops.{command_at, on_tile, tile_after}
 use Rattle.dp_paint.specs.Painting.{length-tile_drawn, tile_drawn}
 use Rattle.dp_paint.proofs.Ops.{is_tile_after}
 
@@ -54,3 +57,20 @@ module _ (width height : ℕ) (commands : List Draw) (number col row : ℕ) (pix
     no_number is count =
         is_tile_after (on_tile width height commands col row) (Command number ∷ []) pixels pixels
         count (λ i j in_x in_y. rw is refl)
+
+-- the pixel at a place, on which it was drawn
+pub number_pixel : (width height : ℕ) (commands : List Draw) (number : ℕ) (op : Draw)
+    (region : Region) (x y : ℕ) (old : Channels) (new : List Channels) (d : Channels)
+    → slice_get commands number ≡ Some op → region.x ≡ x → region.y ≡ y → region.width ≡ 1
+    → region.height ≡ 1 → region.canvas_width ≡ width → region.canvas_height ≡ height
+    → IsPainted region 1 (pixel_drawn region.canvas_width region.canvas_height op) (old ∷ []) new
+    → get_or new 0 d
+    ≡ command_at (on_tile width height commands (x / 64) (y / 64)) number (x % 64) (y % 64) old
+number_pixel width height commands number op region x y old new d numbered at_x at_y wide high cw
+    ch is =
+    let no_x : x + 0 ≡ x = omega arith in
+    let no_y : y + 0 ≡ y = omega arith in
+    let place_x : x / 64 * 64 + x % 64 ≡ x = omega arith in
+    let place_y : y / 64 * 64 + y % 64 ≡ y = omega arith in
+    is.inside 0 0 d (omega (arith, wide)) (omega (arith, high))
+    ∙ (rw (at_x, at_y, cw, ch, no_x, no_y, numbered, place_x, place_y) refl)

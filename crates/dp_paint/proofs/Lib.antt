@@ -9,6 +9,7 @@ pub mod Layers
 pub mod Drawn
 pub mod FootLemmas
 pub mod Moving
+pub mod Named
 pub mod Painting
 pub mod Plain
 pub mod Puts

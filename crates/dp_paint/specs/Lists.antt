@@ -1,7 +1,7 @@
 -- Operations that wait for the tiles of a grid.
 use Rattle.std.specs.Prelude.{◌≡◌, ℕ, ◌==◌, ◌+◌, ◌-◌, ◌*◌, ◌/◌, ◌%◌, ◌<◌, ◌≤◌, pos, ℤ}
 use Rattle.std.specs.Prelude.{nat_le, if◌then◌else◌, List, [], ◌++◌, length, slice_index_or}
-use Rattle.std.specs.Prelude.{slice_get, Some}
+use Rattle.std.specs.Prelude.{slice_get, Some, ◌⊎◌}
 use Rattle.dp_blend.specs.Color.{Channels}
 use Rattle.dp_blend.specs.Canvas.{canvas_of}
 use Rattle.dp_msg_draw.specs.declared.draw.Draw.{Draw}
@@ -87,6 +87,16 @@ pub record IsFiled (among : OnTile → Type 0) (command : Draw) (area : CellArea
   pub outside : (col row : ℕ) → col < 64 → (IsInside area col row → ⊥)
       → listed_at new col row ≡ listed_at old col row
 
+-- what waits on the tiles of a canvas of these sides names none but these commands: it is the same
+-- if more come after them
+abbrev pub NamesThese : ℕ → ℕ → List Draw → Lists → Type 0
+NamesThese width height commands lists =
+    (more : List Draw) (x y : ℕ) (p : Channels) → x < width → y < height
+    → ops_at (on_tile width height (commands ++ more) (x / 64) (y / 64))
+    (listed_at lists (x / 64) (y / 64)) (x % 64) (y % 64) p
+    ≡ ops_at (on_tile width height commands (x / 64) (y / 64))
+    (listed_at lists (x / 64) (y / 64)) (x % 64) (y % 64) p
+
 -- ---- in the words of the code
 
 -- what becomes of the operations of a list
@@ -110,6 +120,12 @@ AllCount l = (col row : ℕ) → col < 64 → (list_at l col row).more ≡ []
 -- the operations that wait on each tile stay
 abbrev pub HaveSame : Lists → Lists → Type 0
 HaveSame old new = (col row : ℕ) → col < 64 → listed_at new col row ≡ listed_at old col row
+
+-- on each tile none waits, or the same as before
+abbrev pub HaveSome : Lists → Lists → Type 0
+HaveSome old new =
+    (col row : ℕ) → col < 64 → row < 64
+    → (listed_at new col row ≡ []) ⊎ (listed_at new col row ≡ listed_at old col row)
 
 -- the list of each tile stays
 abbrev pub HaveSameLists : Lists → Lists → Type 0

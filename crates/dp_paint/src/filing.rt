@@ -7,6 +7,7 @@ ghost use Rattle.dp_blend.specs.Color.{Channels, of_argb, premultiplied};
 ghost use Rattle.dp_pixels.specs.Commands.{IsDabs, pixel_after};
 ghost use Rattle.dp_pixels.specs.Strokes.{brush_of};
 ghost use Rattle.dp_pixels.specs.Rectangles.{is_in};
+ghost use Rattle.dp_paint.specs.Painting.{IsPainting};
 ghost use Rattle.dp_paint.specs.Ops.{MayWait, tile_place};
 ghost use Rattle.dp_paint.specs.Lists.{AddsMore, AllCount, HaveSame, IsChangedOn, IsFiled};
 ghost use Rattle.dp_paint.specs.Lists.{IsInside, IsNumbered, StayOutside, anywhere};
@@ -320,6 +321,16 @@ pub(crate) fn may_wait(command: &Draw, area: CellArea) -> bool
         }
         Draw::DabsRound { .. } | Draw::DabsSquare { .. } => true,
         _ => false,
+    }
+}
+
+/// How many colours an image has, which waits by its number; nothing of another command.
+pub(crate) fn colors_of(command: &Draw) -> Option<usize>
+    ensures { IfSome result (λ count. IsPainting command.now) }
+{
+    match command {
+        Draw::PutImage { colors, .. } => Some(colors.as_slice().len()),
+        _ => None,
     }
 }
 

@@ -10,13 +10,13 @@ ghost use Rattle.dp_pixels.specs.Resizes.{pixels_resized};
 ghost use Rattle.dp_pixels.specs.Tiles.{ShowsTile};
 ghost use Rattle.dp_tile.specs.Areas.{is_in_cells};
 ghost use Rattle.dp_tile.specs.Tiles.{grid_pixels};
-ghost use Rattle.dp_paint.specs.Painting.{IsGridOf};
+ghost use Rattle.dp_paint.specs.Painting.{IsGridOf, IsPainting};
 ghost use Rattle.dp_paint.specs.Ops.{MayWait};
 ghost use Rattle.dp_paint.specs.Reading.{ChangesPixels};
 
 use crate::blank::blank_grid;
 use crate::feet::foot_cells;
-use crate::filing::{file, may_wait};
+use crate::filing::{Numbered, colors_of, file, file_number, may_wait};
 use crate::in_place::{paint_in_place, paint_lists, settle};
 use crate::lists::TileLists;
 use crate::movement::move_in_place;
@@ -38,9 +38,21 @@ use std::thread::Threads;
 /// How many operations may be added for each tile of the layer before all are painted.
 const WAITING: usize = 1024;
 
-/// The pixels of a layer on a canvas: a grid of tiles, and small fills and dabs that wait until
-/// their tiles are painted otherwise or read. A tile is then painted once by all of them. Layers
-/// that are shared have their tiles in common until one of them is written to.
+/// How many colours the images that wait may have for each tile of the layer before all are
+/// painted: half as many as it has pixels.
+const COLORS: usize = 2048;
+
+/// As how many colours an image counts besides its own, for what else it takes.
+const IMAGE: usize = 64;
+
+/// The most images that wait.
+const IMAGES: usize = 1048576;
+
+/// The pixels of a layer on a canvas: a grid of tiles, and small fills, dabs and images that wait
+/// until their tiles are painted otherwise or read. A tile is then painted once by all of them.
+/// Layers that are shared have their tiles in common until one of them is written to.
+///
+/// An image that waits is kept once, and waits on each of its tiles by its number.
 ///
 /// It is seen as the sides of its canvas and its pixels after all that waits.
 #[derive(Drop)]
@@ -48,24 +60,27 @@ pub struct DeferredGrid {
     width: u32,
     height: u32,
     grid: Grid,
+    images: Vec<Draw>,
+    colors: usize,
     lists: TileLists,
 }
 
 impl Model for DeferredGrid {
-    ghost use Rattle.std.specs.Prelude.{◌≡◌, []};
+    ghost use Rattle.std.specs.Prelude.{◌≡◌};
     ghost use Rattle.dp_paint.specs.Painting.{IsGridOf};
-    ghost use Rattle.dp_paint.specs.Lists.{AllCount, LayerOf, layer_pixels};
+    ghost use Rattle.dp_paint.specs.Lists.{AllCount, LayerOf, NamesThese, layer_pixels};
 
     ghost Value = { LayerOf };
 
     ghost view = { λ d. record {
       width = d.width;
       height = d.height;
-      pixels = layer_pixels d.width d.height [] d.lists d.grid;
+      pixels = layer_pixels d.width d.height d.images.items d.lists d.grid;
     } };
 
     ghost invariant = { λ d. IsGridOf d.width d.height d.grid
-        × (d.lists.first ≡ 0) × AllCount d.lists };
+        × (d.lists.first ≡ 0) × AllCount d.lists
+        × NamesThese d.width d.height d.images.items d.lists };
 }
 
 /// Draws a command on a grid.
@@ -91,6 +106,17 @@ fn draw_in_place<T: Ledger>(
     }
 }
 
+/// Equal commands.
+fn copied(commands: &[Draw], alloc: Global) -> Result<Vec<Draw>, AllocError>
+    ensures { IfOk result (λ copy. copy.items ≡ commands.now) }
+{
+    let mut copy = Vec::with_capacity(alloc, commands.len())?;
+    for command in commands {
+        copy.push(command.copy()?)?;
+    }
+    Ok(copy)
+}
+
 impl DeferredGrid {
     /// The clear pixels of a canvas of these sides. It makes no tile.
     pub fn blank(alloc: Global, width: u32, height: u32) -> Result<DeferredGrid, AllocError>
@@ -107,6 +133,8 @@ impl DeferredGrid {
             width,
             height,
             grid,
+            images: Vec::new(alloc),
+            colors: 0,
             lists: TileLists::new(alloc, 0),
         })
     }
@@ -120,8 +148,8 @@ impl DeferredGrid {
         let _ = &self.grid;
     }
 
-    /// Draws a command. A fill of few tiles and dabs wait. Any other command is painted, after all
-    /// that waits on the tiles of its foot.
+    /// Draws a command. A fill of few tiles, dabs and an image wait. Any other command is painted,
+    /// after all that waits on the tiles of its foot.
     ///
     /// # Errors
     ///
@@ -143,9 +171,11 @@ impl DeferredGrid {
         self.grid.known();
         let area = foot_cells(command, self.grid.cols(), self.grid.rows());
         if may_wait(command, area) {
-            self.wait(command, area, tiles)
-        } else {
-            self.paint(command, area, tiles)
+            return self.wait(command, area, tiles);
+        }
+        match colors_of(command) {
+            Some(colors) => self.wait_by_number(command, colors, area, tiles),
+            None => self.paint(command, area, tiles),
         }
     }
 
@@ -178,13 +208,57 @@ impl DeferredGrid {
         file(&mut self.lists, self.grid.alloc(), command, area)
     }
 
+    /// Has an image of so many colours wait by its number on the cells of its foot. All that waits
+    /// is painted before, if it is too much.
+    fn wait_by_number<T: Ledger>(
+        &mut self,
+        command: &Draw,
+        colors: usize,
+        area: CellArea,
+        tiles: &mut Steps<T>,
+    ) -> Result<(), AllocError>
+        requires command { IsPainting command.now }
+        requires across { area.left ≤ area.right }
+        requires down { area.top ≤ area.bottom }
+        requires cols { area.right * 64 < self.old.width + 64 }
+        requires rows { area.bottom * 64 < self.old.height + 64 }
+        requires all { (x y : ℕ) → x < self.old.width → y < self.old.height
+            → is_in_foot (foot command.now) (pos x) (pos y) ≡ true
+            → is_in_cells area (x / 64) (y / 64) ≡ true }
+        ensures ok { OnOk result (self.new ≡ record self.old {
+          pixels = pixels_after self.old.width
+              self.old.height command.now self.old.pixels;
+        }) }
+        ensures err { OnErr result (self.new ≡ self.old) }
+        ensures tiles_rise { tiles.old ≤ tiles.new }
+        ensures few_tiles { tiles.new ≤ tiles.old + 4096 }
+    {
+        pixels_stay_outside_the_foot();
+        self.make_room(tiles)?;
+        let number = self.images.len();
+        if number >= IMAGES {
+            // This is never so: before so many wait, all are painted.
+            return Err(AllocError);
+        }
+        self.images.push(command.copy()?)?;
+        self.colors = self.colors.saturating_add(colors).saturating_add(IMAGE);
+        let source = Numbered {
+            width: self.width,
+            height: self.height,
+            number: number as u32,
+            command,
+        };
+        file_number(&mut self.lists, self.grid.alloc(), &source, area)
+    }
+
     /// Whether a `part`-th of the operations that may wait were added: all of them for 1.
     fn has_part(&self, part: usize) -> bool
         requires { 0 < part }
     {
         self.grid.known();
         let (cols, rows) = (self.grid.cols(), self.grid.rows());
-        self.lists.added() >= cols as usize * rows as usize * WAITING / part
+        let count = cols as usize * rows as usize;
+        self.lists.added() >= count * WAITING / part || self.colors >= count * COLORS / part
     }
 
     /// Whether so much waits that all of it is painted before the next command waits.
@@ -215,10 +289,12 @@ impl DeferredGrid {
         let on = Sheet {
             width: self.width,
             height: self.height,
-            commands: &[],
+            commands: &self.images,
         };
         settle_all(rt, &mut self.grid, on, &mut self.lists, workers, tiles)?;
         self.lists = TileLists::new(self.grid.alloc(), 0);
+        self.images = Vec::new(self.grid.alloc());
+        self.colors = 0;
         Ok(())
     }
 
@@ -242,10 +318,12 @@ impl DeferredGrid {
         let on = Sheet {
             width: self.width,
             height: self.height,
-            commands: &[],
+            commands: &self.images,
         };
         paint_lists(&mut self.grid, on, &self.lists, all, tiles)?;
         self.lists = TileLists::new(self.grid.alloc(), 0);
+        self.images = Vec::new(self.grid.alloc());
+        self.colors = 0;
         Ok(())
     }
 
@@ -277,7 +355,7 @@ impl DeferredGrid {
         let on = Sheet {
             width: self.width,
             height: self.height,
-            commands: &[],
+            commands: &self.images,
         };
         settle(&mut self.grid, on, &mut self.lists, area, tiles)?;
         draw_in_place(&mut self.grid, self.width, self.height, command, tiles)
@@ -313,13 +391,15 @@ impl DeferredGrid {
         let on = Sheet {
             width: self.width,
             height: self.height,
-            commands: &[],
+            commands: &self.images,
         };
         paint_lists(&mut grid, on, &self.lists, all, tiles)?;
         Ok(DeferredGrid {
             width: change.new_width as u32,
             height: change.new_height as u32,
             grid: resized_grid(&grid, change, tiles)?,
+            images: Vec::new(grid.alloc()),
+            colors: 0,
             lists: TileLists::new(grid.alloc(), 0),
         })
     }
@@ -332,6 +412,8 @@ impl DeferredGrid {
             width: self.width,
             height: self.height,
             grid: self.grid.share()?,
+            images: copied(&self.images, self.grid.alloc())?,
+            colors: self.colors,
             lists: self.lists.share()?,
         })
     }
@@ -367,7 +449,7 @@ impl DeferredGrid {
         let on = Sheet {
             width: self.width,
             height: self.height,
-            commands: &[],
+            commands: &self.images,
         };
         show_ops(&on, col, row, ops, color, pixels)
     }
@@ -378,9 +460,14 @@ impl DeferredGrid {
         requires down { y < self.now.height }
         ensures { result ≡ pixel_at self.now.width self.now.pixels x y }
     {
+        let on = Sheet {
+            width: self.width,
+            height: self.height,
+            commands: &self.images,
+        };
         let mut pixel = self.grid.get(x, y);
         for op in self.lists.ops(x / 64, y / 64) {
-            pixel = op.unpacked().pixel_after(x % 64, y % 64, pixel);
+            pixel = op.unpacked().pixel_after(&on, x, y, pixel);
         }
         pixel
     }

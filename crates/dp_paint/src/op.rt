@@ -1,7 +1,7 @@
 //! Operations on one tile.
 
 ghost use Rattle.std.specs.Prelude.{◌≡◌, [], ◌∷◌, ℕ, ◌<◌, true, length, IfSome, pos, ◌+ℤ◌, ◌-ℤ◌};
-ghost use Rattle.std.specs.Prelude.{◌≤ℤ◌, ◌<ℤ◌};
+ghost use Rattle.std.specs.Prelude.{◌≤ℤ◌, ◌<ℤ◌, ◌/◌, ◌%◌};
 ghost use Rattle.dp_blend.specs.Color.{Channels, of_argb};
 ghost use Rattle.dp_paint.specs.Ops.{IsPackable, OnTile, code_of, dab_at, dab_in_tile, fill_at};
 ghost use Rattle.dp_paint.specs.Ops.{is_in_fill, mode_coded, on_tile, op_at, packed_dab};
@@ -176,17 +176,15 @@ pub(crate) enum TileOp {
 }
 
 impl TileOp {
-    /// The pixel at a column and a row of the tile after it, of the old one there, if no command
-    /// has a number.
-    pub(crate) fn pixel_after(self, x: u32, y: u32, old: Pixel) -> Pixel
-        requires x { x < 64 }
-        requires y { y < 64 }
-        ensures { (t : OnTile) → t.commands ≡ [] → result ≡ op_at t self x y old }
+    /// The pixel at a place of the canvas after it, of the old one there.
+    pub(crate) fn pixel_after(self, on: &Sheet<'_>, x: u32, y: u32, old: Pixel) -> Pixel
+        ensures { result ≡ op_at (on_tile on.now.width on.now.height on.now.commands.now (x / 64)
+            (y / 64)) self (x % 64) (y % 64) old }
     {
         match self {
-            TileOp::Fill(fill) => fill.pixel_after(x, y, old),
-            TileOp::Dab(dab) => dab.pixel_after(x, y, old),
-            TileOp::Command(_) => old,
+            TileOp::Fill(fill) => fill.pixel_after(x % 64, y % 64, old),
+            TileOp::Dab(dab) => dab.pixel_after(x % 64, y % 64, old),
+            TileOp::Command(number) => on.pixel_after(number, x, y, old),
         }
     }
 

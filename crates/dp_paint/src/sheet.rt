@@ -1,13 +1,14 @@
 //! Commands that operations name by their numbers.
 
-ghost use Rattle.std.specs.Prelude.{◌≡◌, [], ◌∷◌, ◌<◌, length, slice_get, IfSome, IfNone, Some};
-ghost use Rattle.std.specs.Prelude.{None};
-ghost use Rattle.dp_paint.specs.Ops.{on_tile, tile_after};
+ghost use Rattle.std.specs.Prelude.{◌≡◌, [], ◌∷◌, ◌<◌, ◌/◌, ◌%◌, length, slice_get, IfSome, IfNone};
+ghost use Rattle.std.specs.Prelude.{Some, None};
+ghost use Rattle.dp_paint.specs.Ops.{command_at, on_tile, tile_after};
 
 use crate::op::TileOp;
 use crate::painter::CommandPainter;
 use dp_blend::Pixel;
 use dp_msg_draw::Draw;
+use dp_pixels::{Region, draw_region};
 
 /// A canvas of these sides, and the commands that operations on its tiles name by their numbers.
 #[derive(Clone, Copy)]
@@ -48,5 +49,28 @@ impl Sheet<'_> {
             }
             None => {}
         }
+    }
+
+    /// The pixel at a place of the canvas after the command of a number, of the old one there. It
+    /// stays if there is no such command.
+    #[inline(never)]
+    pub(crate) fn pixel_after(&self, number: u32, x: u32, y: u32, old: Pixel) -> Pixel
+        ensures { result ≡ command_at (on_tile self.now.width self.now.height
+            self.now.commands.now (x / 64) (y / 64)) number (x % 64) (y % 64) old }
+    {
+        let Some(command) = self.command(number) else {
+            return old;
+        };
+        let place = Region {
+            x,
+            y,
+            width: 1,
+            height: 1,
+            canvas_width: self.width,
+            canvas_height: self.height,
+        };
+        let mut pixel = [old];
+        draw_region(command, &place, 1, &mut pixel);
+        pixel[0]
     }
 }

@@ -8,7 +8,7 @@ ghost use Rattle.dp_pixels.specs.Feet.{reach};
 ghost use Rattle.dp_tile.specs.Areas.{IsPaintedOn};
 ghost use Rattle.dp_tile.specs.Tiles.{grid_pixels};
 ghost use Rattle.dp_paint.specs.Painting.{IsGridOf, IsPainting, pixels_after_all};
-ghost use Rattle.dp_paint.specs.Lists.{AllCount, layer_pixels, listed_at};
+ghost use Rattle.dp_paint.specs.Lists.{AllCount, HaveSome, layer_pixels, listed_at};
 ghost use Rattle.dp_paint.specs.Jobs.{tiles_waiting};
 ghost use Rattle.dp_paint.specs.Lists.{waiting_tile};
 ghost use Rattle.dp_paint.specs.Jobs.{band_at};
@@ -90,6 +90,7 @@ pub(crate) fn settle_all<R: Threads + Sync, G: Gate, T: Ledger>(
         ≡ layer_pixels on.entry.width on.entry.height on.entry.commands.now lists.old grid.old }
     ensures none { OnOk result
         ((col row : ℕ) → col < 64 → row < 64 → listed_at lists.new col row ≡ []) }
+    ensures some { HaveSome lists.old lists.new }
     ensures tiles_rise { tiles.old ≤ tiles.new }
     ensures few_tiles { tiles.new ≤ tiles.old + tiles_waiting lists.old 4096 }
 {

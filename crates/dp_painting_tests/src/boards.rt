@@ -94,18 +94,19 @@ const DABS_DOWN: &[u8] = b"\x95\x01\x01\0\0\0\x01\0\0\0?\xff\0\0\x01\0\0\x01\xff
 /// A white pixel at (127, 64), by Replace.
 const PIXEL: &[u8] = b"\x88\x01\x01\xff\0\0\0\x7f\0\0\0@\0\0\0\x01\0\0\0\x01\xff\xff\xff\xff";
 
-/// A clear pixel on each of the tiles changes nothing. What waits on the tile is painted before it.
-const SETTLES_0: &[u8] = b"\x88\x01\x01\x01\0\0\0\0\0\0\0\0\0\0\0\x01\0\0\0\x01\0\0\0\0";
+/// A pixel of each of the tiles that is moved to its own place changes nothing. What waits on the
+/// tile is painted before it.
+const SETTLES_0: &[u8] = b"\x98\x01\x01\0\0\0\0\0\0\0\0\0\0\0\x01\0\0\0\x01\0\0\0\0\0\0\0\0";
 
-const SETTLES_1: &[u8] = b"\x88\x01\x01\x01\0\0\0@\0\0\0\0\0\0\0\x01\0\0\0\x01\0\0\0\0";
+const SETTLES_1: &[u8] = b"\x98\x01\x01\0\0\0@\0\0\0\0\0\0\0\x01\0\0\0\x01\0\0\0@\0\0\0\0";
 
-const SETTLES_2: &[u8] = b"\x88\x01\x01\x01\0\0\0\x80\0\0\0\0\0\0\0\x01\0\0\0\x01\0\0\0\0";
+const SETTLES_2: &[u8] = b"\x98\x01\x01\0\0\0\x80\0\0\0\0\0\0\0\x01\0\0\0\x01\0\0\0\x80\0\0\0\0";
 
-const SETTLES_3: &[u8] = b"\x88\x01\x01\x01\0\0\0\0\0\0\0@\0\0\0\x01\0\0\0\x01\0\0\0\0";
+const SETTLES_3: &[u8] = b"\x98\x01\x01\0\0\0\0\0\0\0@\0\0\0\x01\0\0\0\x01\0\0\0\0\0\0\0@";
 
-const SETTLES_4: &[u8] = b"\x88\x01\x01\x01\0\0\0@\0\0\0@\0\0\0\x01\0\0\0\x01\0\0\0\0";
+const SETTLES_4: &[u8] = b"\x98\x01\x01\0\0\0@\0\0\0@\0\0\0\x01\0\0\0\x01\0\0\0@\0\0\0@";
 
-const SETTLES_5: &[u8] = b"\x88\x01\x01\x01\0\0\0\x80\0\0\0@\0\0\0\x01\0\0\0\x01\0\0\0\0";
+const SETTLES_5: &[u8] = b"\x98\x01\x01\0\0\0\x80\0\0\0@\0\0\0\x01\0\0\0\x01\0\0\0\x80\0\0\0@";
 
 /// Ten places after all of these.
 const PLACES: &[(u16, u32, u32, Option<[u16; 4]>)] = &[

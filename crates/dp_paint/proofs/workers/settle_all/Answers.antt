@@ -4,6 +4,7 @@ use Rattle.dp_paint.specs.Jobs.{band_at}
 use Rattle.dp_paint.proofs.Counts.{waiting_to}
 use Rattle.dp_paint.proofs.Layers.{painted_grid, settled}
 use Rattle.dp_paint.proofs.Waits.{all_counts}
+use Rattle.dp_paint.proofs.Named.{done_some}
 use Rattle.dp_paint.proofs.Bands.{band_count, band_empty, band_rest}
 use Rattle.dp_paint.proofs.workers.settle_all.Goals as goal
 
@@ -56,3 +57,13 @@ returns-in_err-grid-clause-few_tiles g c =
       band_count band initial c.loop-band.lists c.args.tiles.now c.loop-band.tiles _ inv.rest
           inv.few c.band_painted.ensures.few_tiles,
     )
+
+pub returns-in_err-grid-clause-some : goal.returns-in_err-grid-clause-some
+returns-in_err-grid-clause-some g c =
+    let inv = c.loop-band.invariant in
+    done_some (c.loop-band.band * 8) c.args.lists.now c.loop-band.lists inv.none inv.rest
+
+pub returns-clause-some : goal.returns-clause-some
+returns-clause-some g c =
+    let inv = c.loop-band.invariant in
+    done_some (c.loop-band.band * 8) c.args.lists.now c.loop-band.lists inv.none inv.rest

@@ -1,12 +1,15 @@
-use Rattle.std.proofs.Common.{[], ◌∙◌, ap, refl, subst, sym}
+use Rattle.std.proofs.Common.{◌∙◌, List, ap, refl, subst, sym}
 use Rattle.std.proofs.lemmas.Result.{on_err_weaker, on_ok_weaker}
 use Rattle.dp_pixels.specs.Commands.{pixels_after}
-use Rattle.dp_paint.specs.Lists.{LayerOf, Waiting}
+use Rattle.dp_msg_draw.specs.declared.draw.Draw.{Draw}
+use Rattle.dp_tile.specs.Areas.{IsPaintedOn}
+use Rattle.dp_paint.specs.Lists.{LayerOf, Waiting, waiting_tile}
 use Rattle.dp_paint.specs.declared.lists.Finish.TheVariants.{Clear}
 use Rattle.dp_paint.specs.Painting.{IsGridOf}
 use Rattle.dp_paint.proofs.Layers.{always_on_err, drawn_under, either, layer_after, painted_grid}
 use Rattle.dp_paint.proofs.Layers.{same_layer, settled}
 use Rattle.dp_paint.proofs.Waits.{all_counts}
+use Rattle.dp_paint.proofs.Named.{cleared_some, some_name}
 use Rattle.dp_paint.proofs.layer.DeferredGrid.paint.Goals as goal
 
 pub invariant_of-self-2 : goal.invariant_of-self-2
@@ -22,46 +25,60 @@ invariant_of-self-2 g c =
       c.in_ok-settle.ensures.none.first ∙ c.self.invariant.1,
       all_counts c.args.area Clear inside.lists c.settle.new.lists c.in_ok-settle.ensures.none
           (λ col row few out. c.self.invariant.2 col row few),
+      some_name inside.width inside.height inside.images.items inside.lists c.settle.new.lists
+          c.self.invariant.0.wide c.self.invariant.0.high
+          (cleared_some c.args.area inside.lists c.settle.new.lists c.in_ok-settle.ensures.none)
+          c.self.invariant.3,
     )
 
 pub returns-in_err-settle-clause-err : goal.returns-in_err-settle-clause-err
 returns-in_err-settle-clause-err g c =
     let inside = c.self.inside in
+    let images = inside.images.items in
     always_on_err c.from_residual.result _
-    (same_layer c.args.self.now inside.width inside.height [] inside.lists c.settle.new.lists
+    (same_layer c.args.self.now inside.width inside.height images inside.lists c.settle.new.lists
     inside.grid c.settle.new.grid c.self.view_is
     (rw (c.in_err-settle.ensures.err_lists, c.in_err-settle.ensures.err) refl))
 
 pub returns-clause-ok : goal.returns-clause-ok
 returns-clause-ok g c =
     let inside = c.self.inside in
+    let images = inside.images.items in
     let op = c.args.command.now in
     let wide = ap (λ (l : LayerOf). l.width) c.self.view_is in
     let high = ap (λ (l : LayerOf). l.height) c.self.view_is in
     let is_of = c.self.invariant.0 in
+    let painted = subst (λ (cs : List Draw). IsPaintedOn c.args.area
+    (waiting_tile inside.width inside.height cs inside.lists) inside.grid c.settle.new.grid)
+    c.deref.ensures.value c.in_ok-settle.ensures.painted in
     on_ok_weaker c.draw_in_place.result
-    (λ painted.
-    layer_after c.args.self.now inside.width inside.height [] op inside.lists c.settle.new.lists
+    (λ after.
+    layer_after c.args.self.now inside.width inside.height images op inside.lists c.settle.new.lists
     inside.grid c.draw_in_place.new.grid c.self.view_is
-    (drawn_under inside.width inside.height [] op c.pixels_stay_outside_the_foot.ensures
+    (drawn_under inside.width inside.height images op c.pixels_stay_outside_the_foot.ensures
     c.the_foot_tells_all.ensures is_of.wide is_of.high c.args.area c.settle.new.lists
     c.settle.new.grid c.draw_in_place.new.grid
     (λ x y in_x in_y f. c.requires.all x y (rw (sym wide) in_x) (rw (sym high) in_y) f)
     (λ col row i. ap (λ (w : Waiting). w.ops) (c.in_ok-settle.ensures.none.inside col row i))
-    painted
+    after
     ∙ ap (pixels_after inside.width inside.height op)
-    (settled inside.width inside.height [] c.args.area inside.lists c.settle.new.lists inside.grid
-    c.settle.new.grid is_of c.in_ok-settle.ensures.painted c.in_ok-settle.ensures.none)))
+    (settled inside.width inside.height images c.args.area inside.lists c.settle.new.lists
+    inside.grid
+    c.settle.new.grid is_of painted c.in_ok-settle.ensures.none)))
     c.draw_in_place.ensures.pixels
 
 pub returns-clause-err : goal.returns-clause-err
 returns-clause-err g c =
     let inside = c.self.inside in
+    let images = inside.images.items in
+    let painted = subst (λ (cs : List Draw). IsPaintedOn c.args.area
+    (waiting_tile inside.width inside.height cs inside.lists) inside.grid c.settle.new.grid)
+    c.deref.ensures.value c.in_ok-settle.ensures.painted in
     on_err_weaker c.draw_in_place.result
     (λ same.
-    same_layer c.args.self.now inside.width inside.height [] inside.lists c.settle.new.lists
+    same_layer c.args.self.now inside.width inside.height images inside.lists c.settle.new.lists
     inside.grid c.draw_in_place.new.grid c.self.view_is
-    (rw same (settled inside.width inside.height [] c.args.area inside.lists c.settle.new.lists
-    inside.grid c.settle.new.grid c.self.invariant.0 c.in_ok-settle.ensures.painted
+    (rw same (settled inside.width inside.height images c.args.area inside.lists c.settle.new.lists
+    inside.grid c.settle.new.grid c.self.invariant.0 painted
     c.in_ok-settle.ensures.none)))
     c.draw_in_place.ensures.err

@@ -16,7 +16,7 @@ returns-then-is_empty c =
     ≡ tile_of color) (λ color. ShowsTile c.args.self.now.width c.args.self.now.height
     c.args.self.now.pixels c.args.col c.args.row (Some color) []) c.tile_color.ensures
     (λ color is.
-    shows_layer c.args.self.now inside.width inside.height [] inside.lists inside.grid c.args.col
-    c.args.row found (Some color) [] c.self.view_is c.ops.ensures
-    (shows_none (on_tile inside.width inside.height [] c.args.col c.args.row) found color
-    (cell_at inside.grid c.args.col c.args.row) none is))
+    shows_layer c.args.self.now inside.width inside.height inside.images.items inside.lists
+    inside.grid c.args.col c.args.row found (Some color) [] c.self.view_is c.ops.ensures
+    (shows_none (on_tile inside.width inside.height inside.images.items c.args.col c.args.row) found
+    color (cell_at inside.grid c.args.col c.args.row) none is))
