@@ -259,7 +259,7 @@ impl<S: Standing> EntryReader<S> {
         ensures idle { ¬ HoldsNoFrame self.old.stream.held
             → (self.new ≡ self.old) × (I.left input.new ≡ I.left input.old) }
 
-        // If there is none, the input came to its end, or reading it ended with the error.
+        // If there is none, the input came to its end, or reading it ended with this error.
         ensures at_end { IfOk result (λ more. ¬ IsTrue more → IsAtEnd (I.left input.new)) }
         ensures done { IfOk result (λ more. ¬ IsTrue more → (bytes : List ℕ) (entries : List Item)
             → HasRead S.may_stand bytes (I.left input.old) entries self.old
