@@ -37,7 +37,7 @@ use Rattle.dp_commit.specs.Placed.{AreFramesWith, IsSupply}
 use Rattle.dp_commit.specs.Sending.{start_of, stream_in}
 use Rattle.dp_commit.proofs.SendingLemmas.{sent-in, length-commands}
 use Rattle.dp_commit.proofs.PlacedLemmas.{live-more}
-use Rattle.dp_tables.specs.Opened.{with_rest}
+use Rattle.dp_tables.specs.Opened.{with_rest, opening_in}
 use Rattle.dp_tables.specs.Tables.{Seen, AreOf}
 use Rattle.dp_tables.proofs.TableLemmas.{present-marked, live-length}
 
@@ -197,19 +197,15 @@ module _ (s : State) (t : Seen) (are : AreOf s t) where
       ++ map server_entry metas) ++ map command_entry (sent_commands s.stream)) ++ entries) is
 
   -- with its mark that makes up the opening
-  pub opens-whole : (users next count : ℕ) (metas : List Meta) (first : Entry)
-      → users ≡ length (present_users s) → metas ≡ carried s.live (present_users s)
-      → next ≡ epoch_of s + 1 → count ≡ users + length metas + length t.parts + length kept
-      → first ≡ server_entry (ResetMark next count)
-      → with_rest s (first ∷ []) metas
+  pub opens-whole : (users count : ℕ) (metas : List Meta) → users ≡ length (present_users s)
+      → metas ≡ carried s.live (present_users s)
+      → count ≡ users + length metas + length t.parts + length kept
+      → opening_in s count metas
       ≡ opening (epoch_of s + 1) s.live (present_users s) (sent_commands s.stream) kept
-  opens-whole users next count metas first users_are metas_are next_is count_is first_is =
-      sym (rest-is (first ∷ []) metas kept refl)
-      ∙ ap (λ top. (((([] ++ top ∷ []) ++ filter_map (last_join s.live) present)
-      ++ map server_entry metas) ++ map command_entry (commands_in t.journal t.parts)) ++ kept)
-      first_is
-      ∙ opens-so metas next count (metas_are ∙ ap (carried s.live) (sym present-is)) next_is
-      (omega (arith, count_is, users_are, ap length present-is))
+  opens-whole users count metas users_are metas_are count_is =
+      sym (rest-is (server_entry (ResetMark (epoch_of s + 1) count) ∷ []) metas kept refl)
+      ∙ opens-so metas (epoch_of s + 1) count (metas_are ∙ ap (carried s.live) (sym present-is))
+      refl (omega (arith, count_is, users_are, ap length present-is))
 
   -- it has few entries
   count-fits : ((epoch : ℕ) (history : List Entry) (users : List ℕ) (commands : List Draw)

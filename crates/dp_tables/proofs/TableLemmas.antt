@@ -28,9 +28,8 @@ use Rattle.dp_epochs.specs.Effects.{made, live_after, connections_at, connection
 use Rattle.dp_epochs.specs.Effects.{IsEffect, EffectsAreMade}
 use Rattle.dp_epochs.specs.Connections.{is_open}
 use Rattle.dp_epochs.specs.State.{State, first_state, is_present, present_users, is_name, free_id}
-use Rattle.dp_epochs.specs.State.{entry_of, epoch_of, after_shut, after_event, acted}
-use Rattle.dp_epochs.specs.State.{history_of, here, new_connection, open_connection, open_in}
-use Rattle.dp_epochs.specs.State.{with_connection}
+use Rattle.dp_epochs.specs.State.{entry_of, epoch_of, after_shut, after_event, acted, history_of}
+use Rattle.dp_epochs.specs.State.{here, new_connection, open_connection, open_in, with_connection}
 use Rattle.dp_epochs.specs.declared.event.ShutAt.{ShutAt}
 use Rattle.dp_epochs.specs.Rows.{row_of, row_bytes, event_limit, byte_limit}
 use Rattle.dp_epochs.specs.Past.{Past, state_after, state_of, kept, refused}

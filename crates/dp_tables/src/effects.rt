@@ -1,11 +1,11 @@
 //! What an event does to a session, and what is to be kept of it, with the memory that it needs.
 
-ghost use Rattle.std.specs.Prelude.{◌≡◌, ℕ, List, Bool, false, IfOk, MatchOption, length};
+ghost use Rattle.std.specs.Prelude.{◌≡◌, ◌++◌, ℕ, List, Bool, false, IfOk, MatchOption, length};
 ghost use Rattle.dp_messages.specs.Messages.{payload_of};
-ghost use Rattle.dp_epochs.specs.State.{is_name, decided, heard, has_acknowledged};
-ghost use Rattle.dp_epochs.specs.Effects.{IsEffect};
+ghost use Rattle.dp_epochs.specs.State.{is_name, decided, heard, has_acknowledged, next_owner};
+ghost use Rattle.dp_epochs.specs.Effects.{IsEffect, entries_of};
 ghost use Rattle.dp_epochs.specs.Rows.{has_room, row_of};
-ghost use Rattle.dp_commit.specs.Placed.{IsSupply};
+ghost use Rattle.dp_commit.specs.Placed.{IsSupply, opens_epoch, own_entries, unboxed};
 ghost use Rattle.dp_tables.specs.SessionLog.{state_in};
 ghost use Rattle.dp_tables.specs.Ready.{IsReady};
 
@@ -138,43 +138,62 @@ impl Tables {
         })
     }
 
+    /// The entries that the event, which opens no epoch, places beside what it says: this one, and
+    /// that which makes a user the only operator, if there is one.
+    fn entries(
+        &self,
+        event: &Event,
+        effect: Effect,
+        first: Option<Box<Entry>>,
+        owner: Option<u8>,
+    ) -> Result<Supply, AllocError>
+        requires stays { opens_epoch effect ≡ false }
+        requires whole { own_entries event.now effect ++ (unboxed first ++ next_owner owner)
+            ≡ entries_of event.now effect }
+        ensures { IfOk result (IsSupply self.now.journal (state_in self.now) event.now effect) }
+    {
+        match owner_entry(self.allocator(), owner) {
+            Ok(second) => Ok(Supply::Entries { first, second }),
+            Err(error) => {
+                drop(first);
+                Err(error)
+            }
+        }
+    }
+
     /// What the event, which does this, places beside what it says.
     pub(crate) fn supply(&self, event: &Event, effect: Effect) -> Result<Supply, AllocError>
         requires { IsEffect (state_in self.now) event.now effect }
         ensures { IfOk result (IsSupply self.now.journal (state_in self.now) event.now effect) }
     {
         let alloc = self.allocator();
-        Ok(match effect {
+        match effect {
             Effect::Filtered { connection, .. } | Effect::Dropped { connection, .. } => {
-                Supply::Entries {
-                    first: boxed(alloc, Some(filtered(event, connection.user)))?,
-                    second: None,
-                }
+                let first = boxed(alloc, Some(filtered(event, connection.user)))?;
+                self.entries(event, effect, first, None)
             }
-            Effect::Joined { user, next } => Supply::Entries {
-                first: boxed(alloc, join_entry(alloc, event, user)?)?,
-                second: owner_entry(alloc, next)?,
-            },
+            Effect::Joined { user, next } => {
+                let first = boxed(alloc, join_entry(alloc, event, user)?)?;
+                self.entries(event, effect, first, next)
+            }
             Effect::Left {
                 connection,
                 next,
                 ..
-            } => Supply::Entries {
-                first: boxed(
-                    alloc,
-                    Some(Entry {
-                        user: connection.user,
-                        msg: Msg::Meta(Meta::Leave),
-                    }),
-                )?,
-                second: owner_entry(alloc, next)?,
-            },
-            Effect::Reopened { .. } => Supply::Opens(self.open_epoch()?),
-            _ => Supply::Entries {
+            } => {
+                let leave = Entry {
+                    user: connection.user,
+                    msg: Msg::Meta(Meta::Leave),
+                };
+                let first = boxed(alloc, Some(leave))?;
+                self.entries(event, effect, first, next)
+            }
+            Effect::Reopened { .. } => Ok(Supply::Opens(self.open_epoch()?)),
+            _ => Ok(Supply::Entries {
                 first: None,
                 second: None,
-            },
-        })
+            }),
+        }
     }
 
     /// The event as it is ready to be kept; `None` if there is no room for it.

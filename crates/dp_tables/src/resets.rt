@@ -1,6 +1,6 @@
 //! Resets: who may send one, what becomes of its messages, and how it opens the next epoch.
 
-ghost use Rattle.std.specs.Prelude.{◌≡◌, ◌+◌, ◌^◌, ◌<◌, ◌≤◌, ◌∷◌, [], Some, false, is_some};
+ghost use Rattle.std.specs.Prelude.{◌≡◌, ◌+◌, ◌^◌, ◌<◌, ◌≤◌, [], Some, false, is_some};
 ghost use Rattle.std.specs.Prelude.{IfOk, OnOk, All, map, length, nat_le};
 ghost use Rattle.std.specs.List.{filter};
 ghost use Rattle.std.specs.Option.{option_map_or};
@@ -27,7 +27,7 @@ ghost use Rattle.dp_msg_meta.specs.declared.message.Control.TheVariants.{ResetFr
 ghost use Rattle.dp_tables.specs.SessionLog.{state_in};
 ghost use Rattle.dp_history.specs.Items.{entry_in, IsIn};
 ghost use Rattle.dp_history.specs.Openings.{Holds};
-ghost use Rattle.dp_tables.specs.Opened.{with_rest};
+ghost use Rattle.dp_tables.specs.Opened.{opening_in};
 
 use crate::tables::Tables;
 use dp_commit::start_of;
@@ -180,22 +180,22 @@ impl Tables {
         Ok((present.as_slice().len(), metas))
     }
 
-    /// Fills an opening with this mark, and with what stands after it: the Joins of the present
-    /// users, these messages on rights, the commands of the reset that is being sent, and what it
-    /// keeps, for which memory is taken at once.
+    /// Fills an opening: with the mark of the next epoch, which says how many entries stand after
+    /// it, the Joins of the present users, these messages on rights, the commands of the reset that
+    /// is being sent, and what it keeps, for which memory is taken at once.
     fn fill(
         &self,
         opening: &mut Opening,
-        first: Entry,
+        after: u32,
         metas: &[Meta],
         kept: usize,
     ) -> Result<(), AllocError>
         ensures { OnOk result (Holds self.now.journal opening.old []
             → Holds self.now.journal opening.new
-            (with_rest (state_in self.now) (first ∷ []) metas.now)) }
+            (opening_in (state_in self.now) after metas.now)) }
     {
         let items = self.kept_items();
-        opening.add(first)?;
+        opening.add(mark(self.next_epoch(), after))?;
         opening.add_joins(&self.journal, &self.opens, &self.present)?;
         opening.add_metas(metas)?;
         opening.add_commands(&self.parts)?;
@@ -203,13 +203,14 @@ impl Tables {
         Ok(())
     }
 
-    /// How the next epoch opens, with this mark and these messages on rights.
-    fn open_with(&self, first: Entry, metas: &[Meta], kept: usize) -> Result<Opening, AllocError>
+    /// How the next epoch opens, with these messages on rights, if its mark says that so many
+    /// entries stand after it.
+    fn open_with(&self, after: u32, metas: &[Meta], kept: usize) -> Result<Opening, AllocError>
         ensures { IfOk result (λ o. Holds self.now.journal o
-            (with_rest (state_in self.now) (first ∷ []) metas.now)) }
+            (opening_in (state_in self.now) after metas.now)) }
     {
         let mut opening = Opening::new(self.allocator())?;
-        match self.fill(&mut opening, first, metas, kept) {
+        match self.fill(&mut opening, after, metas, kept) {
             Ok(()) => Ok(opening),
             Err(error) => {
                 drop(opening);
@@ -232,8 +233,7 @@ impl Tables {
         let items = self.kept_items();
         let kept = count_kept(&self.journal, items);
         let after = count_after(over.0, over.1.len(), self.parts.len(), kept);
-        let first = mark(self.next_epoch(), after);
-        self.open_with(first, &over.1, kept)
+        self.open_with(after, &over.1, kept)
     }
 }
 

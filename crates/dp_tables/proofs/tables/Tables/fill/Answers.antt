@@ -1,7 +1,8 @@
-use Rattle.std.proofs.Common.{◌∷◌, [], ◌≡◌, ◌++◌, map, sym, ap, subst, ◌∙◌, All}
+use Rattle.std.proofs.Common.{◌≡◌, ◌+◌, ◌∷◌, [], ◌++◌, map, sym, ap, subst, ◌∙◌, All}
 use Rattle.std.specs.List.{filter, filter_map}
+use Rattle.dp_msg_meta.specs.declared.message.Meta.TheVariants.{ResetMark}
 use Rattle.dp_acl.specs.Opening.{server_entry, command_entry, goes_over, last_join}
-use Rattle.dp_epochs.specs.State.{user_ids, kept_by}
+use Rattle.dp_epochs.specs.State.{epoch_of, user_ids, kept_by}
 use Rattle.dp_history.specs.Items.{commands_in, entry_in, IsIn}
 use Rattle.dp_history.specs.Openings.{Holds}
 use Rattle.dp_history.specs.Users.{mark}
@@ -33,9 +34,13 @@ returns c = λ holds.
     let joins = rw c.deref.ensures.value at c.in_ok-add_joins.ensures in
     let drawn = rw c.deref-2.ensures.value at c.in_ok-add_commands.ensures in
     let kept_on = rw c.deref-3.ensures.value at c.in_ok-add_kept.ensures in
-    let history = c.args.first ∷ [] in
+    let first = server_entry (ResetMark (epoch_of s + 1) c.args.after) in
+    let history = first ∷ [] in
+    let first_is : c.mark.result ≡ first =
+    c.mark.ensures ∙ ap (λ n. server_entry (ResetMark n c.args.after)) c.next_epoch.ensures in
     let none = subst (λ j. Holds j c.args.opening.now []) (sym view) holds in
-    let one = c.in_ok-add.ensures J [] none in
+    let one = subst (λ e. Holds J c.add.new.self ([] ++ e ∷ [])) first_is
+    (c.in_ok-add.ensures J [] none) in
     let two = joins history s.live are.joined one in
     let present = filter (mark t.present) user_ids in
     let three = c.in_ok-add_metas.ensures J (history ++ filter_map (last_join s.live) present) two

@@ -52,9 +52,8 @@ returns c =
     (map (entry_in j) c.kept_items-items.result.now))) (ap (λ l. l.journal) c.self.view_is)
     ∙ ap length c.kept_items-items.ensures.kept in
     subst (λ entries. IfOk c.open_with.result (λ o. Holds c.args.self.now.journal o entries))
-    (opens-whole s (seen t) are c.in_ok-over.over.0 c.next_epoch.result
-    c.count_after-after.result metas.items c.mark-first.result c.in_ok-over.ensures.users
-    c.in_ok-over.ensures.metas c.next_epoch.ensures
+    (opens-whole s (seen t) are c.in_ok-over.over.0 c.count_after-after.result metas.items
+    c.in_ok-over.ensures.users c.in_ok-over.ensures.metas
     (omega (
       arith,
       c.count_after-after.ensures,
@@ -63,6 +62,5 @@ returns c =
       metas.ok.0,
       t.parts.ok.0,
       kept,
-    ))
-    c.mark-first.ensures)
+    )))
     (rw c.deref-2.ensures.value at c.open_with.ensures)
