@@ -111,6 +111,7 @@ fn act_often<R: Wait>(rt: &R, hall: &Hall<Counter>, seat: &mut Seat<Counter>)
     }
 }
 
+#[derive(Drop)]
 struct Deaf;
 
 impl Listener<Counter> for Deaf {
