@@ -2,7 +2,8 @@
 # Times `world` on clients that are shown often or have much unanswered: 2,000 and 4,000 points with a
 # fill and a picture after each, 100,000 fills anywhere that two clients say and take, a point with
 # 20,000 fills and ten undos and redos of it, and 10,000 fills of one client beside 10,000 of another
-# that never meet them, if none or 100 are unanswered all the time.
+# that never meet them, if none or 100 are unanswered all the time. Then 40,000 fills of one client,
+# and 20,000 of three clients, who says each by chance: one keeps the tiles of its view, three don't.
 . "$(dirname "$0")/common.sh"
 python3 - "$work" <<'PY'
 import random
@@ -42,5 +43,10 @@ for name, held in (('answered', 0), ('held', 100)):
     for k in range(10000):
         say(f'say 1 {anywhere(2000)}', 'up 1', f'say 2 {fill(2048 + random.randrange(2000), k % 4080, 16)}', 'up 2')
         say('take 1', 'take 1', 'take 2', 'take 2')
+for name, count in (('alone', 1), ('three', 3)):
+    say = lines(name, ['ann', 'bob', 'eve'][:count], '00001000')
+    for k in range(40000 if count == 1 else 20000):
+        who = random.randint(1, count)
+        say(f'say {who} {anywhere()}', f'up {who}', *(f'take {n + 1}' for n in range(count)))
 PY
-time_all world shown-2000 shown-4000 anywhere undone answered held
+time_all world shown-2000 shown-4000 anywhere undone answered held alone three

@@ -57,6 +57,8 @@ def schedule():
     lines += [*said(1, "820101000000"), *said(2, "81" + "00" * 16)]
     both, shown = ["take 1", "take 2"], ["conf 1", "view 2"]
     lines += both * 9
+    # From here on the first client's view keeps tiles of its own.
+    lines += [*said(1, POINT), *both] * 130
     for n in range(6):
         lines += said(1, fill(n * 20)) + said(2, fill(n * 20 + 70)) + both * 2
     for piece in POINT, fill(10), UNDO, REDO:
