@@ -210,6 +210,7 @@ impl DeferredGrid {
 
     /// Has an image of so many colours wait by its number on the cells of its foot. All that waits
     /// is painted before, if it is too much.
+    #[inline(never)]
     fn wait_by_number<T: Ledger>(
         &mut self,
         command: &Draw,
@@ -252,6 +253,7 @@ impl DeferredGrid {
     }
 
     /// Whether a `part`-th of the operations that may wait were added: all of them for 1.
+    #[inline(always)]
     fn has_part(&self, part: usize) -> bool
         requires { 0 < part }
     {
@@ -299,6 +301,7 @@ impl DeferredGrid {
     }
 
     /// Paints all that waits, if it is too much.
+    #[inline(always)]
     fn make_room<T: Ledger>(&mut self, tiles: &mut Steps<T>) -> Result<(), AllocError>
         ensures same { self.new ≡ self.old }
         ensures tiles_rise { tiles.old ≤ tiles.new }
