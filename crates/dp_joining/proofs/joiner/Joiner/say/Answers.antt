@@ -36,7 +36,8 @@ returns-in_err-say-clause-err g c =
     c.args.output.now c.say.new.draws c.say.new.tiles)
     (λ (j : Joining). said_by j c.args.msg) _ _ _
     (says_adds old c.args.msg c.user-user.result (length (said old.client c.args.msg).fork)
-    c.user-user.ensures refl) c.say.ensures.counts
+    c.user-user.ensures refl)
+    (c.clients_show.ensures.counts _ _ _ _ _ c.say.ensures.counts)
     c.send_entry.ensures.prefix refl
     (record { print = refl; write = c.in_ok-send_entry.ensures.kept; read = refl }))
 
@@ -53,7 +54,7 @@ returns-clause-ok g c =
     (says_leads old now c.args.msg c.in_ok-say.ensures.ok refl)
     (says_adds old c.args.msg c.user-user.result c.pending_len.result c.user-user.ensures
     (c.pending_len.ensures ∙ ap (λ (s : State). length s.fork) c.in_ok-say.ensures.ok))
-    c.say.ensures.counts
+    (c.clients_show.ensures.counts _ _ _ _ _ c.say.ensures.counts)
     c.in_ok-send_entry.ensures.written c.in_ok-send_entry.ensures.kept refl
     c.print_line.ensures.written c.print_line.ensures.kept
 
@@ -69,6 +70,6 @@ returns-clause-err g c =
     (sent_by c.user-user.result c.args.msg) (said_due c.args.msg)
     (says_adds old c.args.msg c.user-user.result c.pending_len.result c.user-user.ensures
     (c.pending_len.ensures ∙ ap (λ (s : State). length s.fork) c.in_ok-say.ensures.ok))
-    c.say.ensures.counts
+    (c.clients_show.ensures.counts _ _ _ _ _ c.say.ensures.counts)
     c.in_ok-send_entry.ensures.written c.in_ok-send_entry.ensures.kept refl
     c.print_line.ensures.prefix c.print_line.ensures.fault
