@@ -21,7 +21,7 @@ use dp_entries::EntryReader;
 use dp_io::{Sink, Source};
 use dp_messages::Msg;
 use dp_msg_meta::{Control, NameBytes, Text};
-use dp_shown::ShownBoard;
+use dp_shown::ClientBoard;
 use std::alloc::Global;
 
 /// How many bytes of a link count: 1 GiB.
@@ -29,7 +29,7 @@ const LINK_LIMIT: u64 = 1 << 30;
 
 /// A client that a server has welcomed, with the reader of the link's further entries.
 #[derive(Drop)]
-pub(crate) struct Greeting<B: ShownBoard> {
+pub(crate) struct Greeting<B: ClientBoard> {
     pub client: Client<B>,
     pub chats: HeapCircularBuffer<ChatLine>,
     pub reader: EntryReader<JoinStanding>,
@@ -44,7 +44,7 @@ struct Welcome {
 }
 
 /// Says the name in a Hello, and takes the Welcome.
-pub(crate) fn greet<B: ShownBoard, R: Source, S: Sink>(
+pub(crate) fn greet<B: ClientBoard, R: Source, S: Sink>(
     alloc: Global,
     name: &Text,
     rx: &mut R,
@@ -74,7 +74,7 @@ pub(crate) fn greet<B: ShownBoard, R: Source, S: Sink>(
 }
 
 /// The client that the link's first entry welcomes.
-fn welcomed<B: ShownBoard, R: Source>(
+fn welcomed<B: ClientBoard, R: Source>(
     alloc: Global,
     reader: &mut EntryReader<JoinStanding>,
     rx: &mut R,
@@ -95,7 +95,7 @@ fn welcomed<B: ShownBoard, R: Source>(
 }
 
 /// A client that was welcomed so.
-fn client_of<B: ShownBoard>(alloc: Global, welcome: Welcome) -> Result<Client<B>, JoinStop>
+fn client_of<B: ClientBoard>(alloc: Global, welcome: Welcome) -> Result<Client<B>, JoinStop>
     ensures ok { IfOk result (λ client.
         client ≡ welcomed welcome.user welcome.epoch welcome.at) }
     ensures memory { IfErr result (λ stop. stop ≡ JoinStop.Memory) }

@@ -30,7 +30,7 @@ use dp_messages::{Entry, Msg};
 use dp_msg_meta::Control;
 use dp_schedule::{JoinAction, ReportLine};
 use dp_showing::{Shown, clients_show};
-use dp_shown::ShownBoard;
+use dp_shown::ClientBoard;
 use dp_snap::{reset_begin, snapshot};
 use dp_steps::Steps;
 use std::alloc::Global;
@@ -38,7 +38,7 @@ use std::sync::ledger::Ledger;
 
 /// A client over a link, of which the source and the sink are its own.
 #[derive(Drop)]
-pub(crate) struct Joiner<B: ShownBoard, R, S> {
+pub(crate) struct Joiner<B: ClientBoard, R, S> {
     pub alloc: Global,
     pub client: Client<B>,
     pub chats: HeapCircularBuffer<ChatLine>,
@@ -47,7 +47,7 @@ pub(crate) struct Joiner<B: ShownBoard, R, S> {
     pub tx: S,
 }
 
-impl<B: ShownBoard, R: Source, S: Sink> Joiner<B, R, S> {
+impl<B: ClientBoard, R: Source, S: Sink> Joiner<B, R, S> {
     /// Does what a line asks for.
     pub fn act<O: Sink, D: Ledger, T: Ledger>(
         &mut self,

@@ -18,7 +18,7 @@ use dp_lines::{RunEnd, further_step, whole_lines};
 use dp_messages::Msg;
 use dp_msg_meta::{Control, Text};
 use dp_script::{ScriptEnd, run_lines};
-use dp_shown::ShownBoard;
+use dp_shown::ClientBoard;
 use dp_steps::Steps;
 use std::alloc::Global;
 use std::sync::ledger::Ledger;
@@ -50,7 +50,7 @@ pub struct Joined<R, S> {
 ///
 /// The rule: docs/protocol.md, "Joining".
 pub fn join_link<
-    B: ShownBoard,
+    B: ClientBoard,
     I: Source,
     O: Sink,
     R: Source + Drop,
@@ -108,7 +108,7 @@ pub fn join_link<
 }
 
 /// The client over its link.
-fn joiner_of<B: ShownBoard, R, S>(
+fn joiner_of<B: ClientBoard, R, S>(
     alloc: Global,
     greeting: Greeting<B>,
     rx: R,
@@ -137,7 +137,7 @@ fn joiner_of<B: ShownBoard, R, S>(
 
 /// Does the lines of the script, and says that the client leaves.
 fn do_script<
-    B: ShownBoard,
+    B: ClientBoard,
     I: Source,
     O: Sink,
     R: Source + Drop,
@@ -207,7 +207,7 @@ fn do_script<
 }
 
 /// Says that the client leaves, if all lines are done. How the run ends.
-fn leave<B: ShownBoard, R: Source, S: Sink>(
+fn leave<B: ClientBoard, R: Source, S: Sink>(
     joiner: &mut Joiner<B, R, S>,
     ended: ScriptEnd<JoinStop>,
 ) -> RunEnd
@@ -226,7 +226,7 @@ fn leave<B: ShownBoard, R: Source, S: Sink>(
 }
 
 /// Says that the client leaves. How the run ends.
-fn farewell<B: ShownBoard, R: Source, S: Sink>(joiner: &mut Joiner<B, R, S>) -> RunEnd
+fn farewell<B: ClientBoard, R: Source, S: Sink>(joiner: &mut Joiner<B, R, S>) -> RunEnd
     ensures says { SaysFarewell (S.held joiner.old.tx) (S.held joiner.new.tx)
         (S.faults joiner.old.tx) (S.faults joiner.new.tx) joiner.old.client.user result }
     ensures source { joiner.new.rx ≡ joiner.old.rx }

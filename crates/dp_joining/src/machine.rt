@@ -10,18 +10,18 @@ use dp_io::{Sink, Source};
 use dp_lines::Line;
 use dp_schedule::{JoinAction, one_action, one_join_action, read_join_action};
 use dp_script::{LineMachine, Undone};
-use dp_shown::ShownBoard;
+use dp_shown::ClientBoard;
 use dp_steps::Steps;
 use std::alloc::Global;
 use std::sync::ledger::Ledger;
 
-impl<B: ShownBoard, R, S> dp_lines::StepRule for Joiner<B, R, S> {
+impl<B: ClientBoard, R, S> dp_lines::StepRule for Joiner<B, R, S> {
     ghost use Rattle.dp_joining.specs.Outcomes.{IsJoinStep};
 
     ghost is_step = { IsJoinStep };
 }
 
-impl<B: ShownBoard, R: Source, S: Sink, O: Sink, D: Ledger, T: Ledger> LineMachine<
+impl<B: ClientBoard, R: Source, S: Sink, O: Sink, D: Ledger, T: Ledger> LineMachine<
     O,
     Steps<D>,
     Steps<T>,

@@ -15,7 +15,7 @@ use dp_client::Client;
 use dp_io::{Failed, Sink, put_all};
 use dp_schedule::ReportLine;
 use dp_showing::{Shown, show};
-use dp_shown::{PictureEnd, ShownBoard};
+use dp_shown::{ClientBoard, PictureEnd};
 use itoa::Buffer;
 use std::alloc::{AllocError, Global};
 
@@ -34,7 +34,7 @@ fn put_output<O: Sink>(bytes: &[u8], output: &mut O) -> Result<(), JoinStop>
 }
 
 /// Prints what is shown of a client.
-pub(crate) fn print_shown<B: ShownBoard, O: Sink>(
+pub(crate) fn print_shown<B: ClientBoard, O: Sink>(
     alloc: Global,
     client: &Client<B>,
     shown: Shown,

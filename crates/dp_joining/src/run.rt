@@ -9,7 +9,7 @@ use crate::link::{Joined, join_link};
 use dp_io::{Sink, Source};
 use dp_lines::RunEnd;
 use dp_msg_meta::Text;
-use dp_shown::ShownBoard;
+use dp_shown::ClientBoard;
 use dp_steps::Steps;
 use dp_wire::{Wire, WireError};
 use std::alloc::Global;
@@ -24,7 +24,7 @@ use std::sync::ledger::Ledger;
 /// ends as `join_link`.
 ///
 /// The rule: docs/protocol.md, "Joining".
-pub fn run_join<B: ShownBoard, I: Source, O: Sink, W: Wire, D: Ledger, T: Ledger>(
+pub fn run_join<B: ClientBoard, I: Source, O: Sink, W: Wire, D: Ledger, T: Ledger>(
     alloc: Global,
     name: &Text,
     wire: &mut W,

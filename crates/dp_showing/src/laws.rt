@@ -8,11 +8,11 @@ ghost use Rattle.dp_messages.specs.declared.message.Entry.{Entry};
 ghost use Rattle.dp_msg_draw.specs.declared.draw.Draw.{Draw};
 ghost use Rattle.dp_pixels.specs.Feet.{reach};
 
-use dp_shown::ShownBoard;
+use dp_shown::ClientBoard;
 
 /// What a client draws is what its definitions say, on whatever board it draws: its boards show its
 /// confirmed canvas and its view, and what an entry may draw is due on a canvas.
-pub fn clients_show<B: ShownBoard>()
+pub fn clients_show<B: ClientBoard>()
     ensures confirmed { (s : State) → B.board (confirmed_on B.drawn B.blank s) ≡ confirmed s }
     ensures view { (s : State) → B.board (view_on B.drawn B.blank s) ≡ view s }
     ensures counts { (due : List Draw) (draws draws_now tiles tiles_now : ℕ)

@@ -12,7 +12,7 @@ use crate::recording::write_recording;
 use crate::snapshot::write_snapshot;
 use dp_client::Client;
 use dp_io::Sink;
-use dp_shown::{PictureEnd, ShownBoard};
+use dp_shown::{ClientBoard, PictureEnd};
 use std::alloc::Global;
 
 /// What is shown of a client.
@@ -37,7 +37,7 @@ pub enum Shown {
 /// written then.
 ///
 /// The rule: docs/protocol.md, "Showing a client".
-pub fn show<B: ShownBoard, O: Sink>(
+pub fn show<B: ClientBoard, O: Sink>(
     alloc: Global,
     client: &Client<B>,
     shown: Shown,

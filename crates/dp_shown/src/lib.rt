@@ -7,4 +7,4 @@ mod end;
 mod shown;
 
 pub use end::PictureEnd;
-pub use shown::ShownBoard;
+pub use shown::ClientBoard;

@@ -21,7 +21,7 @@ use std::alloc::Global;
 
 /// A board on which a client draws, and of which it shows pictures. What it shows is a plain board,
 /// on which the same commands are drawn.
-pub trait ShownBoard: Board<Op = Draw> + BlankBoard + BoardView {
+pub trait ClientBoard: Board<Op = Draw> + BlankBoard + BoardView {
     /// Writes the picture of the board as a P3 file.
     ///
     /// # Errors

@@ -45,7 +45,7 @@ use dp_msg_meta::Control;
 use dp_schedule::{Instruction, ReportLine};
 use dp_session::Session;
 use dp_showing::clients_show;
-use dp_shown::ShownBoard;
+use dp_shown::ClientBoard;
 use dp_snap::{reset_begin, snapshot};
 use dp_steps::Steps;
 use std::alloc::{AllocError, Global};
@@ -67,14 +67,14 @@ pub enum LinkState {
 /// A client: its connection, what it has taken and said, the messages on their way to the session,
 /// and its link.
 #[derive(Drop)]
-pub struct Participant<B: ShownBoard> {
+pub struct Participant<B: ClientBoard> {
     conn: u32,
     client: Client<B>,
     uplink: VecDeque<Msg>,
     link: LinkState,
 }
 
-impl<B: ShownBoard> Model for Participant<B> {
+impl<B: ClientBoard> Model for Participant<B> {
     ghost use Rattle.dp_sim.specs.Exchanges.{Participant as Seen};
 
     ghost Value = { Seen };
@@ -107,7 +107,7 @@ fn put_parts(uplink: &mut VecDeque<Msg>, commands: &[Draw]) -> Result<(), AllocE
     Ok(())
 }
 
-impl<B: ShownBoard> Participant<B> {
+impl<B: ClientBoard> Participant<B> {
     /// A client that has joined.
     pub(crate) fn new(
         alloc: Global,

@@ -19,7 +19,7 @@ use dp_frame::Octets;
 use dp_keeper::{Rows, SureKeeper};
 use dp_schedule::{Instruction, ReportLine};
 use dp_session::Session;
-use dp_shown::ShownBoard;
+use dp_shown::ClientBoard;
 use dp_steps::Steps;
 use std::alloc::{AllocError, Global};
 use std::marker::Model;
@@ -30,13 +30,13 @@ use std::sync::ledger::Ledger;
 ///
 /// The rule: docs/protocol.md, "The world".
 #[derive(Drop)]
-pub struct World<B: ShownBoard> {
+pub struct World<B: ClientBoard> {
     session: Session<SureKeeper>,
     participants: Vec<Participant<B>>,
     alloc: Global,
 }
 
-impl<B: ShownBoard> Model for World<B> {
+impl<B: ClientBoard> Model for World<B> {
     ghost use Rattle.dp_sim.specs.World.{World as Seen};
 
     ghost Value = { Seen };
@@ -44,7 +44,7 @@ impl<B: ShownBoard> Model for World<B> {
     ghost view = { λ w. record { past = w.session; participants = w.participants.items } };
 }
 
-impl<B: ShownBoard> World<B> {
+impl<B: ClientBoard> World<B> {
     /// The world before the first line.
     pub fn new(alloc: Global) -> Result<Self, AllocError>
         ensures first { IfOk result (λ world. world ≡ first_world) }

@@ -23,7 +23,7 @@ use dp_lines::Line;
 use dp_schedule::{Action, CanvasKind, ReportLine, one_action, read_action};
 use dp_script::{LineMachine, Undone};
 use dp_showing::{Shown, show};
-use dp_shown::{PictureEnd, ShownBoard};
+use dp_shown::{ClientBoard, PictureEnd};
 use dp_sim::World;
 use dp_steps::Steps;
 use std::alloc::{AllocError, Global};
@@ -31,18 +31,18 @@ use std::sync::ledger::Ledger;
 
 /// The machine of a schedule: it does a line in its world.
 #[derive(Drop)]
-pub(crate) struct WorldRun<B: ShownBoard> {
+pub(crate) struct WorldRun<B: ClientBoard> {
     pub alloc: Global,
     pub world: World<B>,
 }
 
-impl<B: ShownBoard> dp_lines::StepRule for WorldRun<B> {
+impl<B: ClientBoard> dp_lines::StepRule for WorldRun<B> {
     ghost use Rattle.dp_world.specs.Schedule.{IsStep};
 
     ghost is_step = { IsStep };
 }
 
-impl<B: ShownBoard, O: Sink, D: Ledger, T: Ledger> LineMachine<O, Steps<D>, Steps<T>>
+impl<B: ClientBoard, O: Sink, D: Ledger, T: Ledger> LineMachine<O, Steps<D>, Steps<T>>
     for WorldRun<B> {
     ghost use Rattle.dp_sim.specs.Invariant.{IsWorld};
     ghost use Rattle.dp_world.specs.Progress.{HasDone, HasEnded, world_of};
@@ -71,7 +71,7 @@ impl<B: ShownBoard, O: Sink, D: Ledger, T: Ledger> LineMachine<O, Steps<D>, Step
     }
 }
 
-impl<B: ShownBoard> WorldRun<B> {
+impl<B: ClientBoard> WorldRun<B> {
     /// A machine before the first line.
     pub fn new(alloc: Global) -> Result<Self, AllocError>
         ensures first { IfOk result (λ run. run.world ≡ first_world) }

@@ -9,7 +9,7 @@ use crate::line_run::WorldRun;
 use dp_io::{Sink, Source};
 use dp_lines::{RunEnd, further_step};
 use dp_script::{ScriptEnd, run_lines};
-use dp_shown::{PictureEnd, ShownBoard};
+use dp_shown::{ClientBoard, PictureEnd};
 use dp_steps::Steps;
 use std::alloc::Global;
 use std::sync::ledger::Ledger;
@@ -28,7 +28,7 @@ const WORLD_LIMIT: usize = 1 << 26;
 /// `Memory` if memory ran out.
 ///
 /// The rule: docs/protocol.md, "The world".
-pub fn run_world<B: ShownBoard, I: Source, O: Sink, D: Ledger, T: Ledger>(
+pub fn run_world<B: ClientBoard, I: Source, O: Sink, D: Ledger, T: Ledger>(
     alloc: Global,
     input: &mut I,
     output: &mut O,

@@ -49,9 +49,9 @@ returns-in-Confirmed-clause-prefix g c =
 pub returns-in-Snapshot-clause-written : goal.returns-in-Snapshot-clause-written
 returns-in-Snapshot-clause-written g c =
     let show = g.B.BoardView.board in
-    written_is c.write_snapshot.result _ _ (snapshot_text (show c.confirmed.result.now))
+    written_is c.write_snapshot.result _ _ (snapshot_text (show c.confirmed-in-Snapshot.result.now))
     (shown_text c.args.shown c.args.client.now)
-    (ap (λ b. snapshot_text (show b)) c.confirmed.ensures
+    (ap (λ b. snapshot_text (show b)) c.confirmed-in-Snapshot.ensures
     ∙ ap snapshot_text (c.clients_show.ensures.confirmed c.args.client.now)
     ∙ ap (λ (s : Shown). shown_text s c.args.client.now) (sym c.in-Snapshot.is))
     c.write_snapshot.ensures.written
@@ -59,9 +59,9 @@ returns-in-Snapshot-clause-written g c =
 pub returns-in-Snapshot-clause-prefix : goal.returns-in-Snapshot-clause-prefix
 returns-in-Snapshot-clause-prefix g c =
     let show = g.B.BoardView.board in
-    prefix_is _ _ (snapshot_text (show c.confirmed.result.now))
+    prefix_is _ _ (snapshot_text (show c.confirmed-in-Snapshot.result.now))
     (shown_text c.args.shown c.args.client.now)
-    (ap (λ b. snapshot_text (show b)) c.confirmed.ensures
+    (ap (λ b. snapshot_text (show b)) c.confirmed-in-Snapshot.ensures
     ∙ ap snapshot_text (c.clients_show.ensures.confirmed c.args.client.now)
     ∙ ap (λ (s : Shown). shown_text s c.args.client.now) (sym c.in-Snapshot.is))
     c.write_snapshot.ensures.prefix
