@@ -6,8 +6,8 @@ use Rattle.dp_schedule.specs.declared.report_line.ReportLine.TheVariants.{Said}
 use Rattle.dp_schedule.specs.ReportText.{text_of}
 use Rattle.dp_joining.specs.Joining.{Joining, said_by, sent_by}
 use Rattle.dp_joining.specs.Steps.{seen}
-use Rattle.dp_joining.proofs.Moving.{drew_none, fails_first, fails_last, fails_memory, moves_last}
-use Rattle.dp_joining.proofs.Moving.{says_adds, says_leads}
+use Rattle.dp_joining.proofs.Moving.{anyhow, drew_none, fails_first, fails_last, fails_memory}
+use Rattle.dp_joining.proofs.Moving.{moves_last, says_adds, says_leads}
 use Rattle.dp_joining.proofs.joiner.Joiner.say.Goals as goal
 
 pub returns-in_err-send_entry-clause-err : goal.returns-in_err-send_entry-clause-err
@@ -73,3 +73,7 @@ returns-clause-err g c =
     (c.clients_show.ensures.counts _ _ _ _ _ c.say.ensures.counts)
     c.in_ok-send_entry.ensures.written c.in_ok-send_entry.ensures.kept refl
     c.print_line.ensures.prefix c.print_line.ensures.fault
+
+pub returns-clause-taken : goal.returns-clause-taken
+returns-clause-taken g c =
+    anyhow c.print_line.result (ap (λ (s : State). s.taken) c.in_ok-say.ensures.ok)
