@@ -5,6 +5,7 @@ mod batch;
 mod canvas;
 mod crossing;
 mod deferred;
+mod picture;
 mod settle;
 mod tiled;
 

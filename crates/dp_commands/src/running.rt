@@ -15,7 +15,7 @@ ghost use Rattle.dp_commands.specs.Runs.{run_of};
 use crate::ending::Ending;
 use crate::host::{Host, Resources};
 use crate::server::run_server;
-use dp_canvas::Workers;
+use dp_canvas::{Canvas, Workers};
 use dp_drill::{Drill, run_drill};
 use dp_epochs::{Journal, Shut};
 use dp_io::{Sink, Source};
@@ -178,7 +178,7 @@ fn run_local<R: Threads + Sync, I: Source, O: Sink, G: Gate, D: Ledger, T: Ledge
     let Host { rt, alloc, gate } = host;
     match command {
         LocalCommand::Replay => run_replay(alloc, input, output, draws, tiles),
-        LocalCommand::World => run_world(alloc, input, output, draws, tiles),
+        LocalCommand::World => run_world::<Canvas, I, O, D, T>(alloc, input, output, draws, tiles),
         LocalCommand::Play { at, workers } => {
             let (at, workers) = (*at, *workers);
             let playing = Playing { at, workers, gate };
@@ -252,7 +252,9 @@ fn join_first<I: Source, O: Sink, W: Wire, D: Ledger, T: Ledger>(
     ensures output_later { O.faults output.old ≤ O.faults output.new }
 {
     match wires.first_mut() {
-        Some(wire) => Ending::Run(run_join(alloc, name, wire, input, output, draws, tiles)),
+        Some(wire) => Ending::Run(run_join::<Canvas, I, O, W, D, T>(
+            alloc, name, wire, input, output, draws, tiles,
+        )),
         None => Ending::NoLink,
     }
 }

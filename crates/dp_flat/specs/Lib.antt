@@ -1,6 +1,5 @@
 pub mod Bands
 pub mod Composed
-pub mod Ends
 pub mod Texts
 pub mod Tones
 pub mod Jobs

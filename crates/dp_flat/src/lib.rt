@@ -15,5 +15,5 @@ mod text;
 mod tone;
 mod workers;
 
-pub use picture::{PictureEnd, write_p3, write_p6, write_p6_by};
+pub use picture::{write_p3, write_p6, write_p6_by};
 pub use pixel::flatten;

@@ -14,7 +14,7 @@ ghost use Rattle.dp_pixels.specs.Tiles.{tiles_along};
 ghost use Rattle.dp_plain.specs.Picture.{p3, p6, picture_text};
 ghost use Rattle.dp_flat.specs.Bands.{HasRows, IsBand, IsLine, chunk_pixels, rgb_text};
 ghost use Rattle.dp_flat.specs.Composed.{IsDeep, seen_row};
-ghost use Rattle.dp_flat.specs.Ends.{is_sink_fault};
+ghost use Rattle.dp_shown.specs.Ends.{is_sink_fault};
 ghost use Rattle.dp_flat.specs.Jobs.{AreJobsOf};
 ghost use Rattle.dp_flat.specs.Texts.{GrowsBefore, magic_of, pixel_text_of};
 
@@ -28,38 +28,10 @@ use crate::workers::{BandJob, make_jobs, make_ready, next_slot};
 use dp_blend::Pixel;
 use dp_io::{Failed, Sink, put_all};
 use dp_plain::BoardView;
+use dp_shown::PictureEnd;
 use dp_wire::Gate;
 use std::alloc::{AllocError, Global};
 use std::thread::Threads;
-
-/// Why a picture was not written.
-#[derive(Clone, Copy, Debug, PartialEq, Eq)]
-pub enum PictureEnd {
-    /// The sink failed.
-    Failed,
-    /// Memory ran out.
-    Memory,
-}
-
-impl From<Failed> for PictureEnd {
-    ghost use Rattle.dp_flat.specs.declared.picture.PictureEnd.{PictureEnd};
-
-    ghost from_gives = { λ _ e. e ≡ PictureEnd.Failed };
-
-    fn from(_failed: Failed) -> PictureEnd {
-        PictureEnd::Failed
-    }
-}
-
-impl From<AllocError> for PictureEnd {
-    ghost use Rattle.dp_flat.specs.declared.picture.PictureEnd.{PictureEnd};
-
-    ghost from_gives = { λ _ e. e ≡ PictureEnd.Memory };
-
-    fn from(_full: AllocError) -> PictureEnd {
-        PictureEnd::Memory
-    }
-}
 
 /// Writes the picture of the board as a P6 file, a piece of at most 49152 bytes at a time.
 ///

@@ -221,6 +221,11 @@ AddsTo old change text written due =
     → old.chats ≡ buffer (keep_last chat_limit j.chats) chat_limit
     → Adds j (change j) text written due
 
+-- what holds however a call ends holds if it answers `Ok`
+pub anyhow : {A E P : Type 0} (r : Result A E) → P → OnOk r P
+anyhow (Ok x) p = p
+anyhow (Err e) p = tt
+
 -- if the last text is printed
 pub moves_last : (r : Result Unit JoinStop) (old now : Seen) (change : Joining → Joining)
     (text written : List ℕ) (due : List Draw) → LeadsTo old now change

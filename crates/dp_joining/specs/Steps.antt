@@ -119,11 +119,11 @@ pub record Seen : Type 0 where
 abbrev pub source_at : {R : Type 0} → (R → Option (List ℕ)) → (R → ℕ) → Reader → R → Source
 source_at left faults reader rx = record { left = left rx; faults = faults rx; reader = reader }
 
-abbrev pub source_of : {R S : Type 0} → (R → Option (List ℕ)) → (R → ℕ) → Joiner R S → Source
+abbrev pub source_of : {B R S : Type 0} → (R → Option (List ℕ)) → (R → ℕ) → Joiner B R S → Source
 source_of left faults joiner = source_at left faults joiner.reader joiner.rx
 
-abbrev pub seen : {R S O : Type 0} → (R → Option (List ℕ)) → (R → ℕ) → (S → Option (List ℕ))
-    → (S → ℕ) → (O → Option (List ℕ)) → (O → ℕ) → Joiner R S → O → ℕ → ℕ → Seen
+abbrev pub seen : {B R S O : Type 0} → (R → Option (List ℕ)) → (R → ℕ) → (S → Option (List ℕ))
+    → (S → ℕ) → (O → Option (List ℕ)) → (O → ℕ) → Joiner B R S → O → ℕ → ℕ → Seen
 seen left read_faults held faults printed print_faults joiner output draws tiles = record {
   client = joiner.client;
   chats = joiner.chats;

@@ -16,11 +16,12 @@ use crate::pulling::pull;
 use crate::sending::send;
 use crate::stops::{JoinStop, LinkCause};
 use circular_buffer::HeapCircularBuffer;
+use dp_client::Client;
 use dp_entries::EntryReader;
 use dp_io::{Sink, Source};
 use dp_messages::Msg;
 use dp_msg_meta::{Control, NameBytes, Text};
-use dp_showing::CanvasClient;
+use dp_shown::ClientBoard;
 use std::alloc::Global;
 
 /// How many bytes of a link count: 1 GiB.
@@ -28,8 +29,8 @@ const LINK_LIMIT: u64 = 1 << 30;
 
 /// A client that a server has welcomed, with the reader of the link's further entries.
 #[derive(Drop)]
-pub(crate) struct Greeting {
-    pub client: CanvasClient,
+pub(crate) struct Greeting<B: ClientBoard> {
+    pub client: Client<B>,
     pub chats: HeapCircularBuffer<ChatLine>,
     pub reader: EntryReader<JoinStanding>,
 }
@@ -43,12 +44,12 @@ struct Welcome {
 }
 
 /// Says the name in a Hello, and takes the Welcome.
-pub(crate) fn greet<R: Source, S: Sink>(
+pub(crate) fn greet<B: ClientBoard, R: Source, S: Sink>(
     alloc: Global,
     name: &Text,
     rx: &mut R,
     tx: &mut S,
-) -> Result<Greeting, JoinStop>
+) -> Result<Greeting<B>, JoinStop>
     requires { length name.now ≤ 32 }
     ensures hello { OnOk result
         (Appends (S.held tx.old) (S.held tx.new) (hello_bytes name.now)) }
@@ -73,11 +74,11 @@ pub(crate) fn greet<R: Source, S: Sink>(
 }
 
 /// The client that the link's first entry welcomes.
-fn welcomed<R: Source>(
+fn welcomed<B: ClientBoard, R: Source>(
     alloc: Global,
     reader: &mut EntryReader<JoinStanding>,
     rx: &mut R,
-) -> Result<CanvasClient, JoinStop>
+) -> Result<Client<B>, JoinStop>
     requires readable { IsReadable (source_at R.left R.faults reader.old rx.old) }
     requires begun { IfSome (R.left rx.old) (λ bytes.
         HasGiven (source_at R.left R.faults reader.old rx.old) bytes []) }
@@ -94,12 +95,12 @@ fn welcomed<R: Source>(
 }
 
 /// A client that was welcomed so.
-fn client_of(alloc: Global, welcome: Welcome) -> Result<CanvasClient, JoinStop>
+fn client_of<B: ClientBoard>(alloc: Global, welcome: Welcome) -> Result<Client<B>, JoinStop>
     ensures ok { IfOk result (λ client.
         client ≡ welcomed welcome.user welcome.epoch welcome.at) }
     ensures memory { IfErr result (λ stop. stop ≡ JoinStop.Memory) }
 {
-    let client = CanvasClient::new(alloc, welcome.user, welcome.epoch, welcome.at)?;
+    let client = Client::new(alloc, welcome.user, welcome.epoch, welcome.at)?;
     Ok(client)
 }
 

@@ -23,12 +23,14 @@ use crate::pulling::pull;
 use crate::sending::{send, send_entry, send_reset};
 use crate::stops::JoinStop;
 use circular_buffer::HeapCircularBuffer;
+use dp_client::Client;
 use dp_entries::EntryReader;
 use dp_io::{Sink, Source};
 use dp_messages::{Entry, Msg};
 use dp_msg_meta::Control;
 use dp_schedule::{JoinAction, ReportLine};
-use dp_showing::{CanvasClient, Shown};
+use dp_showing::{Shown, clients_show};
+use dp_shown::ClientBoard;
 use dp_snap::{reset_begin, snapshot};
 use dp_steps::Steps;
 use std::alloc::Global;
@@ -36,16 +38,16 @@ use std::sync::ledger::Ledger;
 
 /// A client over a link, of which the source and the sink are its own.
 #[derive(Drop)]
-pub(crate) struct Joiner<R, S> {
+pub(crate) struct Joiner<B: ClientBoard, R, S> {
     pub alloc: Global,
-    pub client: CanvasClient,
+    pub client: Client<B>,
     pub chats: HeapCircularBuffer<ChatLine>,
     pub reader: EntryReader<JoinStanding>,
     pub rx: R,
     pub tx: S,
 }
 
-impl<R: Source, S: Sink> Joiner<R, S> {
+impl<B: ClientBoard, R: Source, S: Sink> Joiner<B, R, S> {
     /// Does what a line asks for.
     pub fn act<O: Sink, D: Ledger, T: Ledger>(
         &mut self,
@@ -107,6 +109,7 @@ impl<R: Source, S: Sink> Joiner<R, S> {
         ensures reader { self.new.reader ≡ self.old.reader }
         ensures rx { self.new.rx ≡ self.old.rx }
     {
+        clients_show::<B>();
         let user = self.client.user();
         let entry = Entry { user, msg };
         send_entry(self.alloc, &entry, &mut self.tx)?;
@@ -172,6 +175,7 @@ impl<R: Source, S: Sink> Joiner<R, S> {
         ensures reader { self.new.reader ≡ self.old.reader }
         ensures rx { self.new.rx ≡ self.old.rx }
     {
+        clients_show::<B>();
         let user = self.client.user();
         let taken = self.client.take(entry, draws, tiles)?;
         self.acknowledge(user, taken.ack)?;
@@ -274,6 +278,7 @@ impl<R: Source, S: Sink> Joiner<R, S> {
         ensures reader { self.new.reader ≡ self.old.reader }
         ensures rx { self.new.rx ≡ self.old.rx }
     {
+        clients_show::<B>();
         let user = self.client.user();
         let commands = snapshot(self.alloc, self.client.confirmed())?;
         let commands = commands.as_slice();

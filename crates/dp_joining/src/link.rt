@@ -18,6 +18,7 @@ use dp_lines::{RunEnd, further_step, whole_lines};
 use dp_messages::Msg;
 use dp_msg_meta::{Control, Text};
 use dp_script::{ScriptEnd, run_lines};
+use dp_shown::ClientBoard;
 use dp_steps::Steps;
 use std::alloc::Global;
 use std::sync::ledger::Ledger;
@@ -37,8 +38,9 @@ pub struct Joined<R, S> {
 }
 
 /// Greets the server at the other end of a link by a name of at most 32 bytes. Then it does the
-/// lines of a script, one after the other. What a line writes to the link is written before what it
-/// prints, and both before the next line is done. At the script's end it says that it leaves.
+/// lines of a script, one after the other. The client draws on boards of the type `B`. What a line
+/// writes to the link is written before what it prints, and both before the next line is done. At
+/// the script's end it says that it leaves.
 ///
 /// # Errors
 ///
@@ -48,7 +50,15 @@ pub struct Joined<R, S> {
 /// the script, the output and the link failed, and with `Memory` if memory ran out.
 ///
 /// The rule: docs/protocol.md, "Joining".
-pub fn join_link<I: Source, O: Sink, R: Source + Drop, S: Sink + Drop, D: Ledger, T: Ledger>(
+pub fn join_link<
+    B: ClientBoard,
+    I: Source,
+    O: Sink,
+    R: Source + Drop,
+    S: Sink + Drop,
+    D: Ledger,
+    T: Ledger,
+>(
     alloc: Global,
     name: &Text,
     link: (R, S),
@@ -86,7 +96,7 @@ pub fn join_link<I: Source, O: Sink, R: Source + Drop, S: Sink + Drop, D: Ledger
 {
     whole_lines();
     let (mut rx, mut tx) = link;
-    match greet(alloc, name, &mut rx, &mut tx) {
+    match greet::<B, R, S>(alloc, name, &mut rx, &mut tx) {
         Ok(greeting) => {
             let joiner = joiner_of(alloc, greeting, rx, tx);
             do_script(joiner, input, output, draws, tiles)
@@ -99,7 +109,12 @@ pub fn join_link<I: Source, O: Sink, R: Source + Drop, S: Sink + Drop, D: Ledger
 }
 
 /// The client over its link.
-fn joiner_of<R, S>(alloc: Global, greeting: Greeting, rx: R, tx: S) -> Joiner<R, S>
+fn joiner_of<B: ClientBoard, R, S>(
+    alloc: Global,
+    greeting: Greeting<B>,
+    rx: R,
+    tx: S,
+) -> Joiner<B, R, S>
     ensures client { result.client ≡ greeting.client }
     ensures chats { result.chats ≡ greeting.chats }
     ensures reader { result.reader ≡ greeting.reader }
@@ -122,8 +137,16 @@ fn joiner_of<R, S>(alloc: Global, greeting: Greeting, rx: R, tx: S) -> Joiner<R,
 }
 
 /// Does the lines of the script, and says that the client leaves.
-fn do_script<I: Source, O: Sink, R: Source + Drop, S: Sink + Drop, D: Ledger, T: Ledger>(
-    joiner: Joiner<R, S>,
+fn do_script<
+    B: ClientBoard,
+    I: Source,
+    O: Sink,
+    R: Source + Drop,
+    S: Sink + Drop,
+    D: Ledger,
+    T: Ledger,
+>(
+    joiner: Joiner<B, R, S>,
     input: &mut I,
     output: &mut O,
     draws: &mut Steps<D>,
@@ -167,7 +190,7 @@ fn do_script<I: Source, O: Sink, R: Source + Drop, S: Sink + Drop, D: Ledger, T:
         draws.old tiles.old) welcome
         → first.print_faults ≤ O.faults output.new }
 {
-    further_step::<Joiner<R, S>>();
+    further_step::<Joiner<B, R, S>>();
     let mut joiner = joiner;
     let alloc = joiner.alloc;
     let ended = run_lines(
@@ -185,7 +208,10 @@ fn do_script<I: Source, O: Sink, R: Source + Drop, S: Sink + Drop, D: Ledger, T:
 }
 
 /// Says that the client leaves, if all lines are done. How the run ends.
-fn leave<R: Source, S: Sink>(joiner: &mut Joiner<R, S>, ended: ScriptEnd<JoinStop>) -> RunEnd
+fn leave<B: ClientBoard, R: Source, S: Sink>(
+    joiner: &mut Joiner<B, R, S>,
+    ended: ScriptEnd<JoinStop>,
+) -> RunEnd
     ensures parts { TakesLeave (S.held joiner.old.tx) (S.held joiner.new.tx)
         (S.faults joiner.old.tx) (S.faults joiner.new.tx) joiner.old.client.user ended result }
     ensures source { joiner.new.rx ≡ joiner.old.rx }
@@ -201,7 +227,7 @@ fn leave<R: Source, S: Sink>(joiner: &mut Joiner<R, S>, ended: ScriptEnd<JoinSto
 }
 
 /// Says that the client leaves. How the run ends.
-fn farewell<R: Source, S: Sink>(joiner: &mut Joiner<R, S>) -> RunEnd
+fn farewell<B: ClientBoard, R: Source, S: Sink>(joiner: &mut Joiner<B, R, S>) -> RunEnd
     ensures says { SaysFarewell (S.held joiner.old.tx) (S.held joiner.new.tx)
         (S.faults joiner.old.tx) (S.faults joiner.new.tx) joiner.old.client.user result }
     ensures source { joiner.new.rx ≡ joiner.old.rx }

@@ -10,18 +10,22 @@ use dp_io::{Sink, Source};
 use dp_lines::Line;
 use dp_schedule::{JoinAction, one_action, one_join_action, read_join_action};
 use dp_script::{LineMachine, Undone};
+use dp_shown::ClientBoard;
 use dp_steps::Steps;
 use std::alloc::Global;
 use std::sync::ledger::Ledger;
 
-impl<R, S> dp_lines::StepRule for Joiner<R, S> {
+impl<B: ClientBoard, R, S> dp_lines::StepRule for Joiner<B, R, S> {
     ghost use Rattle.dp_joining.specs.Outcomes.{IsJoinStep};
 
     ghost is_step = { IsJoinStep };
 }
 
-impl<R: Source, S: Sink, O: Sink, D: Ledger, T: Ledger> LineMachine<O, Steps<D>, Steps<T>>
-    for Joiner<R, S> {
+impl<B: ClientBoard, R: Source, S: Sink, O: Sink, D: Ledger, T: Ledger> LineMachine<
+    O,
+    Steps<D>,
+    Steps<T>,
+> for Joiner<B, R, S> {
     ghost use Rattle.dp_joining.specs.Scripts.{HasDone, HasEnded};
     ghost use Rattle.dp_joining.specs.Steps.{IsReady, seen, source_of};
 

@@ -11,10 +11,11 @@ ghost use Rattle.dp_showing.specs.Showing.{shown_text};
 use crate::chats::{ChatLine, chats_text};
 use crate::stops::JoinStop;
 use circular_buffer::HeapCircularBuffer;
-use dp_flat::PictureEnd;
+use dp_client::Client;
 use dp_io::{Failed, Sink, put_all};
 use dp_schedule::ReportLine;
-use dp_showing::{CanvasClient, Shown, show};
+use dp_showing::{Shown, show};
+use dp_shown::{ClientBoard, PictureEnd};
 use itoa::Buffer;
 use std::alloc::{AllocError, Global};
 
@@ -33,9 +34,9 @@ fn put_output<O: Sink>(bytes: &[u8], output: &mut O) -> Result<(), JoinStop>
 }
 
 /// Prints what is shown of a client.
-pub(crate) fn print_shown<O: Sink>(
+pub(crate) fn print_shown<B: ClientBoard, O: Sink>(
     alloc: Global,
-    client: &CanvasClient,
+    client: &Client<B>,
     shown: Shown,
     output: &mut O,
 ) -> Result<(), JoinStop>

@@ -9,13 +9,14 @@ use crate::link::{Joined, join_link};
 use dp_io::{Sink, Source};
 use dp_lines::RunEnd;
 use dp_msg_meta::Text;
+use dp_shown::ClientBoard;
 use dp_steps::Steps;
 use dp_wire::{Wire, WireError};
 use std::alloc::Global;
 use std::sync::ledger::Ledger;
 
 /// Dials a link on the wire, joins the session at its other end as `join_link` does, and hands the
-/// link back, however the run ends.
+/// link back, however the run ends. The client draws on boards of the type `B`.
 ///
 /// # Errors
 ///
@@ -23,7 +24,7 @@ use std::sync::ledger::Ledger;
 /// ends as `join_link`.
 ///
 /// The rule: docs/protocol.md, "Joining".
-pub fn run_join<I: Source, O: Sink, W: Wire, D: Ledger, T: Ledger>(
+pub fn run_join<B: ClientBoard, I: Source, O: Sink, W: Wire, D: Ledger, T: Ledger>(
     alloc: Global,
     name: &Text,
     wire: &mut W,
@@ -52,7 +53,9 @@ pub fn run_join<I: Source, O: Sink, W: Wire, D: Ledger, T: Ledger>(
     begun_is_due();
     match wire.dial() {
         Ok(link) => {
-            let Joined { end, rx, tx } = join_link(alloc, name, link, input, output, draws, tiles);
+            let Joined { end, rx, tx } = join_link::<B, I, O, W::Rx, W::Tx, D, T>(
+                alloc, name, link, input, output, draws, tiles,
+            );
             wire.done(rx, tx);
             end
         }

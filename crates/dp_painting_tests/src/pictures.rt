@@ -4,10 +4,11 @@ ghost use Rattle.std.specs.Prelude.{◌≡◌, ◌<◌};
 
 use dp_blend::to8;
 use dp_board::Board;
-use dp_flat::{PictureEnd, flatten, write_p3, write_p6};
+use dp_flat::{flatten, write_p3, write_p6};
 use dp_io::MemSink;
 use dp_msg_draw::{Draw, Title};
 use dp_plain::{BoardView, PlainBoard};
+use dp_shown::PictureEnd;
 use dp_steps::Steps;
 use std::alloc::Global;
 use std::marker::Brand;

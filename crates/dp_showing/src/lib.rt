@@ -4,9 +4,11 @@
 //! The rule: docs/protocol.md, "Showing a client".
 #![tactic(auto)]
 
+mod laws;
 mod recording;
 mod showing;
 mod snapshot;
 mod text;
 
-pub use showing::{CanvasClient, Shown, show};
+pub use laws::clients_show;
+pub use showing::{Shown, show};

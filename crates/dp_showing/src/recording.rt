@@ -5,15 +5,15 @@ ghost use Rattle.std.specs.List.{flat_map};
 ghost use Rattle.std.specs.Io.KnownBytes.{Appends};
 ghost use Rattle.dp_io.specs.Faults.{HasCause};
 ghost use Rattle.dp_io.specs.Streams.{GrowsByPrefix};
-ghost use Rattle.dp_flat.specs.Ends.{is_sink_fault};
+ghost use Rattle.dp_shown.specs.Ends.{is_sink_fault};
 ghost use Rattle.dp_showing.specs.Showing.{hex_frame, recording_head, recording_text};
 
 use crate::text::hex_frame;
-use dp_flat::PictureEnd;
 use dp_io::{Sink, put_all};
 use dp_lines::put_hex;
 use dp_messages::Entry;
 use dp_recording::put_header;
+use dp_shown::PictureEnd;
 use std::alloc::{AllocError, Global};
 
 /// Writes the recording of the entries, a frame at a time.

@@ -4,19 +4,16 @@ ghost use Rattle.std.specs.Prelude.{◌≡◌, IsErrOf, OnOk};
 ghost use Rattle.std.specs.Io.KnownBytes.{Appends};
 ghost use Rattle.dp_io.specs.Faults.{HasCause};
 ghost use Rattle.dp_io.specs.Streams.{GrowsByPrefix};
-ghost use Rattle.dp_flat.specs.Ends.{is_sink_fault};
+ghost use Rattle.dp_shown.specs.Ends.{is_sink_fault};
 ghost use Rattle.dp_showing.specs.Showing.{shown_text};
 
+use crate::laws::clients_show;
 use crate::recording::write_recording;
 use crate::snapshot::write_snapshot;
-use dp_canvas::Canvas;
 use dp_client::Client;
-use dp_flat::{PictureEnd, write_p3};
 use dp_io::Sink;
+use dp_shown::{ClientBoard, PictureEnd};
 use std::alloc::Global;
-
-/// A client that draws on canvases.
-pub type CanvasClient = Client<Canvas>;
 
 /// What is shown of a client.
 #[derive(Clone, Copy)]
@@ -40,9 +37,9 @@ pub enum Shown {
 /// written then.
 ///
 /// The rule: docs/protocol.md, "Showing a client".
-pub fn show<O: Sink>(
+pub fn show<B: ClientBoard, O: Sink>(
     alloc: Global,
-    client: &CanvasClient,
+    client: &Client<B>,
     shown: Shown,
     output: &mut O,
 ) -> Result<(), PictureEnd>
@@ -54,9 +51,10 @@ pub fn show<O: Sink>(
         → O.faults output.new ≡ O.faults output.old }
     ensures cause { HasCause is_sink_fault (O.faults output.old) (O.faults output.new) result }
 {
+    clients_show::<B>();
     match shown {
-        Shown::View => write_p3(alloc, client.view(), output),
-        Shown::Confirmed => write_p3(alloc, client.confirmed(), output),
+        Shown::View => client.view().write_picture(alloc, output),
+        Shown::Confirmed => client.confirmed().write_picture(alloc, output),
         Shown::Snapshot => write_snapshot(alloc, client.confirmed(), output),
         Shown::Recording => write_recording(alloc, client.taken(), output),
     }

@@ -5,15 +5,15 @@ ghost use Rattle.std.specs.List.{flat_map};
 ghost use Rattle.std.specs.Io.KnownBytes.{Appends};
 ghost use Rattle.dp_io.specs.Faults.{HasCause};
 ghost use Rattle.dp_io.specs.Streams.{GrowsByPrefix};
-ghost use Rattle.dp_flat.specs.Ends.{is_sink_fault};
+ghost use Rattle.dp_shown.specs.Ends.{is_sink_fault};
 ghost use Rattle.dp_showing.specs.Showing.{snapshot_head, snapshot_line, snapshot_text};
 
 use crate::text::hex_frame;
-use dp_flat::PictureEnd;
 use dp_io::{Sink, put_all};
 use dp_messages::{Entry, Msg};
 use dp_msg_draw::Draw;
 use dp_plain::BoardView;
+use dp_shown::PictureEnd;
 use dp_snap::snapshot;
 use itoa::Buffer;
 use std::alloc::{AllocError, Global};

@@ -35,6 +35,7 @@ ghost use Rattle.dp_sim.specs.Invariant.{IsSayable};
 ghost use Rattle.dp_sim.specs.Calls.{exchange, took_entry, CanTake, CanAct};
 
 use crate::reply_line::{cut_line, left_line, said_line};
+use dp_client::Client;
 use dp_epochs::{Answer, Entries, Event, Query, Reply};
 use dp_keeper::SureKeeper;
 use dp_machine::Machine;
@@ -43,7 +44,8 @@ use dp_msg_draw::Draw;
 use dp_msg_meta::Control;
 use dp_schedule::{Instruction, ReportLine};
 use dp_session::Session;
-use dp_showing::CanvasClient;
+use dp_showing::clients_show;
+use dp_shown::ClientBoard;
 use dp_snap::{reset_begin, snapshot};
 use dp_steps::Steps;
 use std::alloc::{AllocError, Global};
@@ -65,14 +67,14 @@ pub enum LinkState {
 /// A client: its connection, what it has taken and said, the messages on their way to the session,
 /// and its link.
 #[derive(Drop)]
-pub struct Participant {
+pub struct Participant<B: ClientBoard> {
     conn: u32,
-    client: CanvasClient,
+    client: Client<B>,
     uplink: VecDeque<Msg>,
     link: LinkState,
 }
 
-impl Model for Participant {
+impl<B: ClientBoard> Model for Participant<B> {
     ghost use Rattle.dp_sim.specs.Exchanges.{Participant as Seen};
 
     ghost Value = { Seen };
@@ -105,7 +107,7 @@ fn put_parts(uplink: &mut VecDeque<Msg>, commands: &[Draw]) -> Result<(), AllocE
     Ok(())
 }
 
-impl Participant {
+impl<B: ClientBoard> Participant<B> {
     /// A client that has joined.
     pub(crate) fn new(
         alloc: Global,
@@ -113,19 +115,19 @@ impl Participant {
         user: u8,
         epoch: u32,
         at: u32,
-    ) -> Result<Participant, AllocError>
+    ) -> Result<Self, AllocError>
         ensures { IfOk result (λ participant. participant ≡ new_participant conn user epoch at) }
     {
         Ok(Participant {
             conn,
-            client: CanvasClient::new(alloc, user, epoch, at)?,
+            client: Client::new(alloc, user, epoch, at)?,
             uplink: VecDeque::new(alloc),
             link: LinkState::Connected,
         })
     }
 
     /// What it has taken and said.
-    pub(crate) fn client(&self) -> &CanvasClient
+    pub(crate) fn client(&self) -> &Client<B>
         ensures { result.now ≡ self.now.state }
     {
         &self.client
@@ -161,6 +163,7 @@ impl Participant {
         ensures counts { CountsFew reach (said_due msg.now) draws.old draws.new tiles.old
             tiles.new }
     {
+        clients_show::<B>();
         self.client.say(msg, draws, tiles)?;
         self.uplink.push_back(msg.copy()?)?;
         Ok(ReportLine::Said(self.client.pending_len()))
@@ -257,6 +260,7 @@ impl Participant {
         ensures counts { CountsFew reach (canvas_due self.old.state entry.now) draws.old draws.new
             tiles.old tiles.new }
     {
+        clients_show::<B>();
         let taken = self.client.take(entry, draws, tiles)?;
         if let Some(epoch) = taken.ack {
             self.uplink.push_back(Msg::Control(Control::Ack { epoch }))?;
@@ -276,6 +280,7 @@ impl Participant {
         ensures ok { OnOk result
             (self.new ≡ with_sent self.old (client_reset keeps self.old.state)) }
     {
+        clients_show::<B>();
         let commands = snapshot(alloc, self.client.confirmed())?;
         let begin = reset_begin(keeps, self.client.taken().len() as u32);
         self.send_reset(begin, commands.as_slice())

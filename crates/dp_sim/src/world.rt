@@ -13,28 +13,30 @@ ghost use Rattle.dp_sim.specs.Invariant.{IsWorld, IsSayable};
 
 use crate::laws::worlds_stay_worlds;
 use crate::participant::{Participant, serve};
+use dp_client::Client;
 use dp_epochs::{Event, Reply, histories_are_short};
 use dp_frame::Octets;
 use dp_keeper::{Rows, SureKeeper};
 use dp_schedule::{Instruction, ReportLine};
 use dp_session::Session;
-use dp_showing::CanvasClient;
+use dp_shown::ClientBoard;
 use dp_steps::Steps;
 use std::alloc::{AllocError, Global};
 use std::marker::Model;
 use std::sync::ledger::Ledger;
 
-/// The session of a schedule, and its clients in the order of their joins, numbered from 1.
+/// The session of a schedule, and its clients in the order of their joins, numbered from 1. They
+/// draw on boards of one type.
 ///
 /// The rule: docs/protocol.md, "The world".
 #[derive(Drop)]
-pub struct World {
+pub struct World<B: ClientBoard> {
     session: Session<SureKeeper>,
-    participants: Vec<Participant>,
+    participants: Vec<Participant<B>>,
     alloc: Global,
 }
 
-impl Model for World {
+impl<B: ClientBoard> Model for World<B> {
     ghost use Rattle.dp_sim.specs.World.{World as Seen};
 
     ghost Value = { Seen };
@@ -42,9 +44,9 @@ impl Model for World {
     ghost view = { λ w. record { past = w.session; participants = w.participants.items } };
 }
 
-impl World {
+impl<B: ClientBoard> World<B> {
     /// The world before the first line.
-    pub fn new(alloc: Global) -> Result<World, AllocError>
+    pub fn new(alloc: Global) -> Result<Self, AllocError>
         ensures first { IfOk result (λ world. world ≡ first_world) }
         ensures world { IfOk result IsWorld }
     {
@@ -164,7 +166,7 @@ impl World {
     }
 
     /// What the client of this number has taken and said.
-    pub fn client(&self, client: u32) -> &CanvasClient
+    pub fn client(&self, client: u32) -> &Client<B>
         requires { IsSome (participant_of self.now client) }
         ensures { IfSome (participant_of self.now client)
             (λ participant. result.now ≡ participant.state) }

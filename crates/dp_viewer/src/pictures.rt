@@ -8,9 +8,10 @@ ghost use Rattle.dp_viewer.specs.Ways.{play_way, replay_way};
 
 use crate::reading::{Reading, ShownBoard, blank_board, read_frames, read_recording};
 use crate::workers::{Playing, WorkersBoard};
-use dp_flat::{PictureEnd, write_p6};
+use dp_flat::write_p6;
 use dp_io::{Sink, Source};
 use dp_lines::RunEnd;
+use dp_shown::PictureEnd;
 use dp_steps::Steps;
 use dp_wire::Gate;
 use std::alloc::Global;

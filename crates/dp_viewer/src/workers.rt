@@ -7,10 +7,11 @@ ghost use Rattle.dp_viewer.specs.Ways.{first_of};
 
 use crate::reading::{ShownBoard, show_due};
 use dp_canvas::{DeferredBoard, Workers, settle_half_full};
-use dp_flat::{PictureEnd, write_p6_by};
+use dp_flat::write_p6_by;
 use dp_io::Sink;
 use dp_lines::RunEnd;
 use dp_messages::Entry;
+use dp_shown::PictureEnd;
 use dp_steps::Steps;
 use dp_wire::Gate;
 use std::alloc::{AllocError, Global};

@@ -5,8 +5,8 @@ use Rattle.std.specs.Prelude.{Option, Some, None, IfSome}
 use Rattle.std.proofs.lemmas.List.{nil_from_length}
 use Rattle.std.proofs.KnownBytes.{Appends-nil}
 use Rattle.std.specs.Io.KnownBytes.{Appends}
-use Rattle.dp_flat.specs.declared.picture.PictureEnd.{PictureEnd}
-use Rattle.dp_flat.specs.declared.picture.PictureEnd.TheVariants as picture
+use Rattle.dp_shown.specs.declared.end.PictureEnd.{PictureEnd}
+use Rattle.dp_shown.specs.declared.end.PictureEnd.TheVariants as picture
 use Rattle.dp_lines.specs.declared.line.Line.{Line}
 use Rattle.dp_lines.specs.declared.run_end.RunEnd.TheVariants as run
 use Rattle.dp_lines.specs.Ends.{AreSteps, LinesEnd, LinesComeTo, seen}

@@ -5,9 +5,9 @@ use Rattle.std.specs.Prelude.{Option, Err}
 use Rattle.std.specs.Io.KnownBytes.{Appends}
 use Rattle.std.proofs.KnownBytes.{Appends-trans}
 use Rattle.dp_board.specs.Counts.{CountsFew}
-use Rattle.dp_flat.specs.declared.picture.PictureEnd.{PictureEnd}
-use Rattle.dp_flat.specs.declared.picture.PictureEnd.TheVariants.{Failed, Memory}
-use Rattle.dp_flat.specs.Ends.{is_sink_fault}
+use Rattle.dp_shown.specs.declared.end.PictureEnd.{PictureEnd}
+use Rattle.dp_shown.specs.declared.end.PictureEnd.TheVariants.{Failed, Memory}
+use Rattle.dp_shown.specs.Ends.{is_sink_fault}
 use Rattle.dp_io.specs.Faults.{HasCause, Rose}
 use Rattle.dp_io.specs.Streams.{GrowsByPrefix}
 use Rattle.dp_lines.specs.declared.line.Line.{Line}

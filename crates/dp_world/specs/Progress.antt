@@ -3,8 +3,8 @@ use Rattle.std.specs.Prelude.{◌≡◌, ◌⊎◌, ℕ, ◌≤◌, List, [], �
 use Rattle.std.specs.Io.KnownBytes.{Appends}
 use Rattle.dp_io.specs.Faults.{Rose}
 use Rattle.dp_io.specs.Streams.{GrowsByPrefix}
-use Rattle.dp_flat.specs.declared.picture.PictureEnd.{PictureEnd}
-use Rattle.dp_flat.specs.declared.picture.PictureEnd.TheVariants.{Failed, Memory}
+use Rattle.dp_shown.specs.declared.end.PictureEnd.{PictureEnd}
+use Rattle.dp_shown.specs.declared.end.PictureEnd.TheVariants.{Failed, Memory}
 use Rattle.dp_lines.specs.declared.line.Line.{Line}
 use Rattle.dp_schedule.specs.declared.action.Action.{Action}
 use Rattle.dp_schedule.specs.LineGrammar.{Parses}
@@ -14,8 +14,13 @@ use Rattle.dp_script.specs.Counters.{Counters, counters_of}
 use Rattle.dp_script.specs.Moments.{Moment}
 use Rattle.dp_sim.specs.Report.{report}
 use Rattle.dp_sim.specs.World.{World, world_after}
+use Rattle.dp_world.specs.declared.line_run.WorldRun.{WorldRun}
 use Rattle.dp_world.specs.RunEnds.{DrawsFor}
 use Rattle.dp_world.specs.Schedule.{AskFor, IsPossible, IsStep}
+
+-- the world of a machine
+abbrev pub world_of : {B : Type 0} → WorldRun B → World
+world_of run = run.world
 
 -- why no action is had of a line: it asks for nothing that may be done in the world, or memory ran
 -- out

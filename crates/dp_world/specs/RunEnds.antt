@@ -3,8 +3,8 @@ use Rattle.std.specs.Prelude.{◌≡◌, ℕ, List, ◌++◌, Option, Some, IfSo
 use Rattle.std.specs.Io.KnownBytes.{Appends, IsAtEnd}
 use Rattle.dp_board.specs.Counts.{CountsFew}
 use Rattle.dp_io.specs.Streams.{GrowsByPrefix}
-use Rattle.dp_flat.specs.declared.picture.PictureEnd.{PictureEnd}
-use Rattle.dp_flat.specs.declared.picture.PictureEnd.TheVariants as picture
+use Rattle.dp_shown.specs.declared.end.PictureEnd.{PictureEnd}
+use Rattle.dp_shown.specs.declared.end.PictureEnd.TheVariants as picture
 use Rattle.dp_lines.specs.declared.line.Line.{Line}
 use Rattle.dp_lines.specs.declared.run_end.RunEnd.{RunEnd}
 use Rattle.dp_lines.specs.declared.run_end.RunEnd.TheVariants.{Done, BadLine, ReadFault, WriteFault}

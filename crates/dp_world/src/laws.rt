@@ -12,9 +12,17 @@ ghost use Rattle.dp_sim.specs.Invariant.{SaysNoControl};
 ghost use Rattle.dp_world.specs.RunEnds.{DrawsByDue, GrowsByDue, WorldLeaves};
 ghost use Rattle.dp_world.specs.Schedule.{AskFor, WorldComesTo};
 
-use crate::line_run::WorldRun;
-use dp_lines::{further_step, one_end, whole_lines};
+use dp_lines::{StepRule, further_step, one_end, whole_lines};
 use dp_schedule::one_action;
+
+/// The lines of a schedule, for laws of lines.
+struct ScheduleLines;
+
+impl StepRule for ScheduleLines {
+    ghost use Rattle.dp_world.specs.Schedule.{IsStep};
+
+    ghost is_step = { IsStep };
+}
 
 /// An input comes to at most one end, with one list of lines that are done and one of what they ask
 /// for.
@@ -27,7 +35,7 @@ pub fn one_schedule()
         (end last : LinesEnd)
         → WorldComesTo bytes done actions end → WorldComesTo bytes others more last → end ≡ last }
 {
-    one_end::<WorldRun>();
+    one_end::<ScheduleLines>();
     one_action();
 }
 
@@ -37,7 +45,7 @@ pub fn every_schedule()
         → ¬ ((done : List Line) (actions : List Action) (end : LinesEnd)
         → ¬ WorldComesTo bytes done actions end) }
 {
-    further_step::<WorldRun>();
+    further_step::<ScheduleLines>();
 }
 
 /// However a run ends, the output grew by a prefix of the report that the input is due. No more was
@@ -50,7 +58,7 @@ pub fn reports_are_due()
         (end : RunEnd)
         → WorldLeaves (Some bytes) left old now counters end → DrawsByDue bytes counters }
 {
-    further_step::<WorldRun>();
+    further_step::<ScheduleLines>();
     one_action();
     whole_lines();
 }

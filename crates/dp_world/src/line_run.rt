@@ -6,7 +6,7 @@ ghost use Rattle.std.specs.Io.KnownBytes.{Appends};
 ghost use Rattle.dp_board.specs.Counts.{CountsFew};
 ghost use Rattle.dp_io.specs.Faults.{HasCause};
 ghost use Rattle.dp_io.specs.Streams.{GrowsByPrefix};
-ghost use Rattle.dp_flat.specs.Ends.{is_sink_fault};
+ghost use Rattle.dp_shown.specs.Ends.{is_sink_fault};
 ghost use Rattle.dp_pixels.specs.Feet.{reach};
 ghost use Rattle.dp_schedule.specs.declared.action.Action.TheVariants.{Show as Shows};
 ghost use Rattle.dp_schedule.specs.LineGrammar.{Parses};
@@ -18,12 +18,12 @@ ghost use Rattle.dp_sim.specs.World.{after, first_world, participant_of};
 ghost use Rattle.dp_world.specs.Schedule.{IsPossible};
 ghost use Rattle.dp_world.specs.Progress.{IsWorldLineRefused};
 
-use dp_flat::PictureEnd;
 use dp_io::{Sink, put_all};
 use dp_lines::Line;
 use dp_schedule::{Action, CanvasKind, ReportLine, one_action, read_action};
 use dp_script::{LineMachine, Undone};
 use dp_showing::{Shown, show};
+use dp_shown::{ClientBoard, PictureEnd};
 use dp_sim::World;
 use dp_steps::Steps;
 use std::alloc::{AllocError, Global};
@@ -31,26 +31,27 @@ use std::sync::ledger::Ledger;
 
 /// The machine of a schedule: it does a line in its world.
 #[derive(Drop)]
-pub(crate) struct WorldRun {
+pub(crate) struct WorldRun<B: ClientBoard> {
     pub alloc: Global,
-    pub world: World,
+    pub world: World<B>,
 }
 
-impl dp_lines::StepRule for WorldRun {
+impl<B: ClientBoard> dp_lines::StepRule for WorldRun<B> {
     ghost use Rattle.dp_world.specs.Schedule.{IsStep};
 
     ghost is_step = { IsStep };
 }
 
-impl<O: Sink, D: Ledger, T: Ledger> LineMachine<O, Steps<D>, Steps<T>> for WorldRun {
+impl<B: ClientBoard, O: Sink, D: Ledger, T: Ledger> LineMachine<O, Steps<D>, Steps<T>>
+    for WorldRun<B> {
     ghost use Rattle.dp_sim.specs.Invariant.{IsWorld};
-    ghost use Rattle.dp_world.specs.Progress.{HasDone, HasEnded};
+    ghost use Rattle.dp_world.specs.Progress.{HasDone, HasEnded, world_of};
 
     type End = PictureEnd;
 
     ghost is_ready = { λ run. IsWorld run.world };
 
-    ghost has_done = { HasDone (λ run. run.world) O.held O.faults };
+    ghost has_done = { HasDone world_of O.held O.faults };
 
     ghost has_ended = { HasEnded O.held O.faults };
 
@@ -70,9 +71,9 @@ impl<O: Sink, D: Ledger, T: Ledger> LineMachine<O, Steps<D>, Steps<T>> for World
     }
 }
 
-impl WorldRun {
+impl<B: ClientBoard> WorldRun<B> {
     /// A machine before the first line.
-    pub fn new(alloc: Global) -> Result<WorldRun, AllocError>
+    pub fn new(alloc: Global) -> Result<Self, AllocError>
         ensures first { IfOk result (λ run. run.world ≡ first_world) }
         ensures world { IfOk result (λ run. IsWorld run.world) }
     {

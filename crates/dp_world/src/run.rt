@@ -6,10 +6,10 @@ ghost use Rattle.dp_script.specs.Counters.{counters};
 ghost use Rattle.dp_world.specs.RunEnds.{WorldLeaves, run_end_of};
 
 use crate::line_run::WorldRun;
-use dp_flat::PictureEnd;
 use dp_io::{Sink, Source};
 use dp_lines::{RunEnd, further_step};
 use dp_script::{ScriptEnd, run_lines};
+use dp_shown::{ClientBoard, PictureEnd};
 use dp_steps::Steps;
 use std::alloc::Global;
 use std::sync::ledger::Ledger;
@@ -18,7 +18,8 @@ use std::sync::ledger::Ledger;
 const WORLD_LIMIT: usize = 1 << 26;
 
 /// Reads the lines of a schedule and does them one after the other. What a line prints is written
-/// before the next line is done. Its clients' work on canvases is counted.
+/// before the next line is done. Its clients draw on boards of the type `B`, and what they draw is
+/// counted.
 ///
 /// # Errors
 ///
@@ -27,7 +28,7 @@ const WORLD_LIMIT: usize = 1 << 26;
 /// with `Memory` if memory ran out.
 ///
 /// The rule: docs/protocol.md, "The world".
-pub fn run_world<I: Source, O: Sink, D: Ledger, T: Ledger>(
+pub fn run_world<B: ClientBoard, I: Source, O: Sink, D: Ledger, T: Ledger>(
     alloc: Global,
     input: &mut I,
     output: &mut O,
@@ -42,8 +43,8 @@ pub fn run_world<I: Source, O: Sink, D: Ledger, T: Ledger>(
     ensures input_later { I.faults input.old ≤ I.faults input.new }
     ensures output_later { O.faults output.old ≤ O.faults output.new }
 {
-    further_step::<WorldRun>();
-    let Ok(mut machine) = WorldRun::new(alloc) else {
+    further_step::<WorldRun<B>>();
+    let Ok(mut machine) = WorldRun::<B>::new(alloc) else {
         return RunEnd::Memory;
     };
     run_end(run_lines(

@@ -41,7 +41,8 @@ returns-in_err-send_reset-clause-err g c = λ draws tiles.
     ∙ ap (λ (es : List Entry). reset_begin c.args.keeps (length es)) c.taken.ensures in
     let is : commands ≡ snapshot (confirmed old.client) =
     c.as_slice-commands.ensures ∙ c.in_ok-commands.ensures.snapshot
-    ∙ ap snapshot c.confirmed.ensures in
+    ∙ ap (λ b. snapshot (g.B.BoardView.board b)) c.confirmed.ensures
+    ∙ ap snapshot (c.clients_show.ensures.confirmed old.client) in
     let adds = resets_adds c.args.keeps old c.user-user.result (length commands + 2)
     (reset_messages begin commands) c.user-user.ensures (sym (reset_length begin commands))
     (resets_are c.args.keeps old.client begin commands begins is) in
@@ -65,7 +66,8 @@ returns-clause-ok g c = λ draws tiles.
     ∙ ap (λ (es : List Entry). reset_begin c.args.keeps (length es)) c.taken.ensures in
     let is : commands ≡ snapshot (confirmed old.client) =
     c.as_slice-commands.ensures ∙ c.in_ok-commands.ensures.snapshot
-    ∙ ap snapshot c.confirmed.ensures in
+    ∙ ap (λ b. snapshot (g.B.BoardView.board b)) c.confirmed.ensures
+    ∙ ap snapshot (c.clients_show.ensures.confirmed old.client) in
     let adds = resets_adds c.args.keeps old c.user-user.result (length commands + 2)
     (reset_messages begin commands) c.user-user.ensures (sym (reset_length begin commands))
     (resets_are c.args.keeps old.client begin commands begins is) in
@@ -90,7 +92,8 @@ returns-clause-err g c = λ draws tiles.
     ∙ ap (λ (es : List Entry). reset_begin c.args.keeps (length es)) c.taken.ensures in
     let is : commands ≡ snapshot (confirmed old.client) =
     c.as_slice-commands.ensures ∙ c.in_ok-commands.ensures.snapshot
-    ∙ ap snapshot c.confirmed.ensures in
+    ∙ ap (λ b. snapshot (g.B.BoardView.board b)) c.confirmed.ensures
+    ∙ ap snapshot (c.clients_show.ensures.confirmed old.client) in
     let adds = resets_adds c.args.keeps old c.user-user.result (length commands + 2)
     (reset_messages begin commands) c.user-user.ensures (sym (reset_length begin commands))
     (resets_are c.args.keeps old.client begin commands begins is) in

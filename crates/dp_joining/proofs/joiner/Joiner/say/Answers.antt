@@ -6,8 +6,8 @@ use Rattle.dp_schedule.specs.declared.report_line.ReportLine.TheVariants.{Said}
 use Rattle.dp_schedule.specs.ReportText.{text_of}
 use Rattle.dp_joining.specs.Joining.{Joining, said_by, sent_by}
 use Rattle.dp_joining.specs.Steps.{seen}
-use Rattle.dp_joining.proofs.Moving.{drew_none, fails_first, fails_last, fails_memory, moves_last}
-use Rattle.dp_joining.proofs.Moving.{says_adds, says_leads}
+use Rattle.dp_joining.proofs.Moving.{anyhow, drew_none, fails_first, fails_last, fails_memory}
+use Rattle.dp_joining.proofs.Moving.{moves_last, says_adds, says_leads}
 use Rattle.dp_joining.proofs.joiner.Joiner.say.Goals as goal
 
 pub returns-in_err-send_entry-clause-err : goal.returns-in_err-send_entry-clause-err
@@ -36,7 +36,8 @@ returns-in_err-say-clause-err g c =
     c.args.output.now c.say.new.draws c.say.new.tiles)
     (λ (j : Joining). said_by j c.args.msg) _ _ _
     (says_adds old c.args.msg c.user-user.result (length (said old.client c.args.msg).fork)
-    c.user-user.ensures refl) c.say.ensures.counts
+    c.user-user.ensures refl)
+    (c.clients_show.ensures.counts _ _ _ _ _ c.say.ensures.counts)
     c.send_entry.ensures.prefix refl
     (record { print = refl; write = c.in_ok-send_entry.ensures.kept; read = refl }))
 
@@ -53,7 +54,7 @@ returns-clause-ok g c =
     (says_leads old now c.args.msg c.in_ok-say.ensures.ok refl)
     (says_adds old c.args.msg c.user-user.result c.pending_len.result c.user-user.ensures
     (c.pending_len.ensures ∙ ap (λ (s : State). length s.fork) c.in_ok-say.ensures.ok))
-    c.say.ensures.counts
+    (c.clients_show.ensures.counts _ _ _ _ _ c.say.ensures.counts)
     c.in_ok-send_entry.ensures.written c.in_ok-send_entry.ensures.kept refl
     c.print_line.ensures.written c.print_line.ensures.kept
 
@@ -69,6 +70,10 @@ returns-clause-err g c =
     (sent_by c.user-user.result c.args.msg) (said_due c.args.msg)
     (says_adds old c.args.msg c.user-user.result c.pending_len.result c.user-user.ensures
     (c.pending_len.ensures ∙ ap (λ (s : State). length s.fork) c.in_ok-say.ensures.ok))
-    c.say.ensures.counts
+    (c.clients_show.ensures.counts _ _ _ _ _ c.say.ensures.counts)
     c.in_ok-send_entry.ensures.written c.in_ok-send_entry.ensures.kept refl
     c.print_line.ensures.prefix c.print_line.ensures.fault
+
+pub returns-clause-taken : goal.returns-clause-taken
+returns-clause-taken g c =
+    anyhow c.print_line.result (ap (λ (s : State). s.taken) c.in_ok-say.ensures.ok)

@@ -20,7 +20,9 @@ returns-in_err-taken-clause-err g c =
     c.take.new.tiles)
     (λ (j : Joining). took_entry j c.args.entry.now) _ _ _
     (takes_adds old c.args.entry.now c.user-user.result
-    (taken_of old.client c.args.entry.now) c.user-user.ensures refl) c.take.ensures.counts
+    (taken_of old.client c.args.entry.now) c.user-user.ensures refl)
+    (c.clients_show.ensures.takes c.args.self.now.client c.args.entry.now _ _ _ _
+    c.take.ensures.counts)
     (grows_not old.written _) refl (record { print = refl; write = refl; read = refl }))
 
 pub returns-in_err-acknowledge-clause-err : goal.returns-in_err-acknowledge-clause-err
@@ -34,7 +36,9 @@ returns-in_err-acknowledge-clause-err g c =
     (see c.acknowledge.new.self c.args.output.now c.take.new.draws c.take.new.tiles)
     (λ (j : Joining). took_entry j c.args.entry.now) _ _ _
     (takes_adds old c.args.entry.now c.user-user.result c.in_ok-taken.taken c.user-user.ensures
-    c.in_ok-taken.ensures.taken_of) c.take.ensures.counts
+    c.in_ok-taken.ensures.taken_of)
+    (c.clients_show.ensures.takes c.args.self.now.client c.args.entry.now _ _ _ _
+    c.take.ensures.counts)
     c.in_err-acknowledge.ensures.prefix refl refl
     (ap (λ s. g.R.Source.faults s.rx) c.in_err-acknowledge.ensures.same)
     c.in_err-acknowledge.ensures.fault)
@@ -52,7 +56,9 @@ returns-in_err-keep_chat-clause-err g c =
     (see c.keep_chat.new.self c.args.output.now c.take.new.draws c.take.new.tiles)
     (λ (j : Joining). took_entry j c.args.entry.now) _ _ _
     (takes_adds old c.args.entry.now c.user-user.result c.in_ok-taken.taken c.user-user.ensures
-    c.in_ok-taken.ensures.taken_of) c.take.ensures.counts
+    c.in_ok-taken.ensures.taken_of)
+    (c.clients_show.ensures.takes c.args.self.now.client c.args.entry.now _ _ _ _
+    c.take.ensures.counts)
     (subst (λ x. GrowsByPrefix old.written (g.S.Sink.held x)
     (ack_bytes c.user-user.result c.in_ok-taken.taken.ack)) (sym (ap (λ s. s.tx) chats))
     acked.prefix)
@@ -77,7 +83,9 @@ returns-clause-ok g c =
     (ap (λ s. s.client) chats ∙ ap (λ s. s.client) acked.same ∙ c.in_ok-taken.ensures.ok)
     (λ lines kept. c.in_ok-keep_chat.ensures.kept lines (ap (λ s. s.chats) acked.same ∙ kept)))
     (takes_adds old c.args.entry.now c.user-user.result c.in_ok-taken.taken c.user-user.ensures
-    c.in_ok-taken.ensures.taken_of) c.take.ensures.counts
+    c.in_ok-taken.ensures.taken_of)
+    (c.clients_show.ensures.takes c.args.self.now.client c.args.entry.now _ _ _ _
+    c.take.ensures.counts)
     (subst (λ x. Appends old.written (g.S.Sink.held x)
     (ack_bytes c.user-user.result c.in_ok-taken.taken.ack)) (sym (ap (λ s. s.tx) chats))
     acked.written)
@@ -96,7 +104,9 @@ returns-clause-err g c =
     (see c.keep_chat.new.self c.print_line.new.output c.take.new.draws c.take.new.tiles)
     (λ (j : Joining). took_entry j c.args.entry.now) _ _ _
     (takes_adds old c.args.entry.now c.user-user.result c.in_ok-taken.taken c.user-user.ensures
-    c.in_ok-taken.ensures.taken_of) c.take.ensures.counts
+    c.in_ok-taken.ensures.taken_of)
+    (c.clients_show.ensures.takes c.args.self.now.client c.args.entry.now _ _ _ _
+    c.take.ensures.counts)
     (subst (λ x. Appends old.written (g.S.Sink.held x)
     (ack_bytes c.user-user.result c.in_ok-taken.taken.ack)) (sym (ap (λ s. s.tx) chats))
     acked.written)

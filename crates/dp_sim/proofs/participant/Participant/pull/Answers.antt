@@ -3,7 +3,7 @@ use Rattle.dp_sim.proofs.CallLemmas.{pull-is, next-is}
 use Rattle.dp_sim.proofs.participant.Participant.pull.Goals as goal
 
 pub returns : goal.returns
-returns c =
+returns g c =
     let pulled = pull-is c.args.session.now c.args.self.now c.self.inside.conn c.epoch.result
     (length c.taken.result.now)
     c.in_ok-list.field-0 c.requires (ap (λ p. p.conn) c.self.view_is)

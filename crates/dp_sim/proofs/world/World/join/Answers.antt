@@ -4,7 +4,7 @@ use Rattle.dp_sim.proofs.CallLemmas.{on-ok-world}
 use Rattle.dp_sim.proofs.world.World.join.Goals as goal
 
 pub returns-clause-world : goal.returns-clause-world
-returns-clause-world c =
+returns-clause-world g c =
     let w = c.args.self.now in
     let action = Join c.args.name c.args.registered in
     on-ok-world c.admit.result c.admit.new.self (after w action)

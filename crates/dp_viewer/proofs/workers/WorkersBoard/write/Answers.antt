@@ -1,7 +1,7 @@
 use Rattle.std.proofs.Common.{subst}
 use Rattle.std.specs.Bool.{OnTrue}
-use Rattle.dp_flat.specs.Ends.{is_sink_fault}
-use Rattle.dp_flat.specs.declared.picture.PictureEnd.{PictureEnd}
+use Rattle.dp_shown.specs.Ends.{is_sink_fault}
+use Rattle.dp_shown.specs.declared.end.PictureEnd.{PictureEnd}
 use Rattle.dp_io.specs.Faults.{Rose}
 use Rattle.dp_viewer.proofs.Written.{wrote-part, wrote-whole}
 use Rattle.dp_viewer.proofs.workers.WorkersBoard.write.Goals as goal
