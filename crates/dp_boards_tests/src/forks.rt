@@ -277,8 +277,8 @@ fn check_script<D: Ledger, T: Ledger>(
     }
 }
 
-/// Scripts: echoes, strangers that meet the fork or don't, undo on both sides, words that were not
-/// permitted, a fork that is lost, and a painter who says much before others do.
+/// Scripts: echoes, strangers that meet the fork or don't, undo on both sides, and words that were
+/// not permitted. Then a fork that is lost, and a painter who says much before others do.
 static SCRIPTS: [&str; 14] = [
     "",
     "sD1 eD1",

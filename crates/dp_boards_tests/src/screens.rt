@@ -275,8 +275,8 @@ fn check_script<B: Board<Op = Draw> + BoardView, D: Ledger, T: Ledger>(
     }
 }
 
-/// Scripts: echoes, strangers that meet the fork or don't, undo on both sides, words that were not
-/// permitted, a fork that is lost, marks, and a painter who says much before others do.
+/// Scripts: echoes, strangers that meet the fork or don't, undo on both sides, and words that were
+/// not permitted. Then a fork that is lost, marks, and a painter who says much before others do.
 static SCRIPTS: [&str; 13] = [
     "",
     "mO0 sZ0 sC0 sD1 eZ0 eC0 eD1",

@@ -25,7 +25,7 @@ open-at cs i c found =
     ∙ ap (λ o. is_some (where_open o)) found
     ∙ open-some c (is_open c)
 
--- the same, if a default stands for what is past the end
+-- whether a connection is open, if a default stands for what is past the end
 pub open-index : (cs : List Connection) (i : ℕ) (d : Connection) → i < length cs
     → is_some (open_in cs (i + 1)) ≡ is_open (get_or cs i d)
 open-index cs i d within = open-at cs i (get_or cs i d) (slice_get-get_or cs i d within)

@@ -72,8 +72,9 @@ IsWithSupply journal (Entries first second) history next =
     next ≡ history ++ (unboxed first ++ unboxed second)
 IsWithSupply journal (Opens opening) history next = Holds journal opening next
 
--- The frames that were made of a history stay. If it begins anew with what was made ahead, those
--- of its entries from a place on that go over, which end the new one, are made of that.
+-- The frames that were made of a history stay. If it begins anew with what was made ahead, the
+-- frames are made of that. They are those of its entries from a place on that go over, which end
+-- the new one.
 abbrev pub AreFramesWith : List Entry → ℕ → Supply → HistoryFrames → HistoryFrames → Type 0
 AreFramesWith history from (Entries first second) old new = new ≡ old
 AreFramesWith history from (Opens opening) old new =

@@ -54,7 +54,7 @@ owner_after (Dropped conn connection) owner = None
 owner_after (Reopened conn connection) owner = None
 owner_after other owner = owner
 
--- The place that it names, as the event says where one begins. It says nothing if none is sent.
+-- The place that it names, by the event if one begins with it. It says nothing if none is sent.
 abbrev pub next_place : Event → Effect → Option ℕ → Option ℕ
 next_place e (Began conn connection) place = place_in (own_message e)
 next_place e other place = place

@@ -52,8 +52,8 @@ pub fn is_flagged(quiet: &[bool], conn: u32) -> bool
     quiet.get(conn as usize - 1).copied().unwrap_or(false)
 }
 
-/// Adds the connection of the user who joins, or changes that of the one who takes up the epoch or
-/// leaves, by the event of this number.
+/// By the event of this number, adds the connection of the user who joins. Or it changes that of
+/// the one who takes up the epoch or leaves.
 pub fn note_connection(
     connections: &mut Vec<Connection>,
     quiet: &mut Vec<bool>,

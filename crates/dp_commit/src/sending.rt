@@ -10,8 +10,8 @@ use dp_epochs::{Effect, Event};
 use dp_messages::Msg;
 use dp_msg_meta::Control;
 
-/// From where on a history, which ends there, is kept by the reset of the connection, if it sends
-/// one, by the place that it names.
+/// From where on a history, which ends at `end`, is kept by the reset that the connection sends, if
+/// any. The reset names the place.
 pub fn start_of(owner: Option<u32>, place: Option<u32>, end: usize) -> usize
     ensures { result ≡ start_of owner place end }
 {

@@ -23,8 +23,8 @@ use std::collections::VecDeque;
 use std::marker::Model;
 use std::sync::ledger::Ledger;
 
-/// What an act that is said adds to the count of what was said lately, what a stranger's command
-/// takes off, and the most that is counted.
+/// What an act that is said adds to the count of what was said lately, and what a stranger's
+/// command takes off. Then the most that is counted.
 const A_SAY: u32 = 3;
 
 const A_STRANGER: u32 = 2;

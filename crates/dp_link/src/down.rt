@@ -126,7 +126,7 @@ fn send_more<W: Wait, K: Keeper, S: Sink>(
     }
 }
 
-/// Lets more entries come after a page of so many bytes.
+/// Lets more entries come after a page of this number of bytes.
 fn rest_after<W: Wait, K: Keeper>(rt: &W, hall: &Hall<Session<K>>, bytes: usize) {
     if bytes < FEW_BYTES {
         hall.rest(rt, Duration::from_micros(SHORT_REST_MICROS));

@@ -208,7 +208,7 @@ impl DeferredGrid {
         file(&mut self.lists, self.grid.alloc(), command, area)
     }
 
-    /// Has an image of so many colours wait by its number on the cells of its foot. All that waits
+    /// Has an image of `colors` colours wait by its number on the cells of its foot. All that waits
     /// is painted before, if it is too much.
     #[inline(never)]
     fn wait_by_number<T: Ledger>(
@@ -238,7 +238,7 @@ impl DeferredGrid {
         self.make_room(tiles)?;
         let number = self.images.len();
         if number >= IMAGES {
-            // This is never so: before so many wait, all are painted.
+            // This is never so: before `IMAGES` of them wait, all are painted.
             return Err(AllocError);
         }
         self.images.push(command.copy()?)?;

@@ -180,9 +180,9 @@ impl Tables {
         Ok((present.as_slice().len(), metas))
     }
 
-    /// Fills an opening: with the mark of the next epoch, which says how many entries stand after
-    /// it, the Joins of the present users, these messages on rights, the commands of the reset that
-    /// is being sent, and what it keeps, for which memory is taken at once.
+    /// Fills an opening with the mark of the next epoch, which says how many entries stand after
+    /// it. Those are the Joins of the present users, these messages on rights, the commands of the
+    /// reset that is being sent, and what it keeps. Memory for what it keeps is taken at once.
     fn fill(
         &self,
         opening: &mut Opening,
@@ -203,7 +203,7 @@ impl Tables {
         Ok(())
     }
 
-    /// How the next epoch opens, with these messages on rights, if its mark says that so many
+    /// How the next epoch opens, with these messages on rights, if its mark says that `after`
     /// entries stand after it.
     fn open_with(&self, after: u32, metas: &[Meta], kept: usize) -> Result<Opening, AllocError>
         ensures { IfOk result (λ o. Holds self.now.journal o

@@ -1,7 +1,7 @@
 use Rattle.std.proofs.Common.{◌≡◌, ◌-◌, ◌≤◌, ◌<◌, ◌⊎◌, get_or, length}
 use Rattle.dp_history.proofs.log.count_within.Given as goal
 
--- so many frames, or one, end up to the limit
+-- as many frames as were counted, or one, end up to the limit
 abbrev pub invariant-loop-count : goal.invariant-loop-count
 invariant-loop-count l = record {
   some : 0 < l.count;
