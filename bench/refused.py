@@ -1,14 +1,17 @@
 #!/usr/bin/env python3
-"""Runs `world` on a schedule once for each call of the allocator, and has this call be refused.
+"""Runs `world` and `replay` once for each call of the allocator, and has this call be refused.
 
-usage: bench/refused.py [PROGRAM] [SCHEDULE]     bin/drawpile and a schedule of its own, if not given
+usage: bench/refused.py [PROGRAM] [SCHEDULE]     bin/drawpile and inputs of its own, if not given
 
-With status 0 the report has to be whole. With status 7 it has to be a beginning of the whole report,
-and nothing else may come. The schedule of its own has two clients that paint in turn, with echoes,
-strangers' commands that meet what was said or don't, points, undos, a Filtered, a reset and a `keep`.
-Then each client has its canvases shown. It needs a C compiler, `cc`.
+With status 0 the output has to be whole. With status 7 that of `world` has to be a beginning of the
+whole report, and that of `replay` nothing. Nothing else may come. The schedule of its own has two
+clients that paint in turn, with echoes, strangers' commands that meet what was said or don't, points,
+undos, a Filtered, a reset and a `keep`. Then each client has its canvases shown. The drawing has
+fills and dabs that wait across tiles, images that wait, tiles, moves and an undo. It needs a C
+compiler, `cc`.
 """
 import os
+import struct
 import subprocess
 import sys
 import tempfile
@@ -69,15 +72,59 @@ def schedule():
     return "\n".join(lines + ["snap 2", "rec 1", "leave 1", "up 1", "cut 2", ""])
 
 
-def run(program, text, refused, shim):
+def frame(kind, payload):
+    return struct.pack(">HBB", len(payload), kind, 1) + payload
+
+
+def drawing():
+    """Frames of a drawing on two layers of 200 by 200."""
+    frames = [frame(129, struct.pack(">iiii", 0, 200, 200, 0))]
+    frames += [frame(130, struct.pack(">HHB", layer, 0, 0)) for layer in (0x101, 0x102)]
+    for n in range(40):
+        layer, x, y = 0x101 + n % 2, n * 37 % 150, n * 53 % 150
+        dabs = b"".join(struct.pack(">bbBB", 9, n % 7 - 3, 12 + n, 90 + n) for _ in range(6))
+        image = b"".join(struct.pack(">I", 0x80000000 + n * 977 + k) for k in range(30 * 20))
+        frames += [frame(128, b"")] if n % 5 == 0 else []
+        frames.append(frame(137, struct.pack(">HBIIIII", layer, 1, x, y, 40, 30, 0x90402010 + n)))
+        frames.append(frame(149 + n % 2, struct.pack(">Hii", layer, x, y) + bytes([n, 90, 30, 1]) + dabs))
+        frames.append(frame(136, struct.pack(">HBIIII", layer, 1, x, y, 30, 20) + image))
+        if n % 9 == 4:
+            frames.append(frame(152, struct.pack(">HIIIIii", layer, x, y, 50, 50, y, x)))
+        if n % 11 == 6:
+            tile = struct.pack(">HHHHB", layer, n % 3, n % 2, 0, 0) + struct.pack(">HHHH", n, 9, 8, 99)
+            frames.append(frame(146, tile))
+    return b"".join([*frames, frame(255, b"\0\0")])
+
+
+def run(program, word, text, refused, shim):
     """What the program answers and writes, and whether a call was refused."""
     end, other = os.pipe()
-    words = ["env", f"LD_PRELOAD={shim}", f"REFUSE={refused}", f"TELL={other}", program, "world"]
+    words = ["env", f"LD_PRELOAD={shim}", f"REFUSE={refused}", f"TELL={other}", program, word]
     ran = subprocess.run(words, input=text, capture_output=True, pass_fds=[other])
     os.close(other)
     told = os.read(end, 1)
     os.close(end)
     return ran.returncode, ran.stdout, bool(told)
+
+
+def try_each(program, word, text, shim):
+    """Has each call be refused in turn. Whether something else came than is due."""
+    status, whole, _ = run(program, word, text, 0, shim)
+    if status != 0:
+        raise SystemExit(f"{word} ends with status {status}")
+    faults, wholes, refused = 0, 0, 1
+    while True:
+        status, out, told = run(program, word, text, refused, shim)
+        if not told:
+            break
+        wholes += status == 0
+        begins = whole.startswith(out) if word == "world" else out == b""
+        if not (out == whole if status == 0 else status == 7 and begins):
+            faults += 1
+            print(f"{word}, call {refused}: status {status}, {len(out)} of {len(whole)} bytes")
+        refused += 1
+    print(f"{word}: {refused - 1} calls refused in turn: {faults} wrong, {wholes} with all of the output")
+    return faults > 0
 
 
 def main():
@@ -87,22 +134,8 @@ def main():
         source, shim = Path(folder) / "shim.c", Path(folder) / "shim.so"
         source.write_text(SHIM)
         subprocess.run(["cc", "-O1", "-shared", "-fPIC", "-o", shim, source, "-ldl"], check=True)
-        status, whole, _ = run(program, text, 0, shim)
-        if status != 0:
-            raise SystemExit(f"the schedule ends with status {status}")
-        faults, wholes, refused = 0, 0, 1
-        while True:
-            status, out, told = run(program, text, refused, shim)
-            if not told:
-                break
-            wholes += status == 0
-            right = out == whole if status == 0 else status == 7 and whole.startswith(out)
-            if not right:
-                faults += 1
-                print(f"call {refused}: status {status}, {len(out)} of {len(whole)} bytes")
-            refused += 1
-        print(f"{refused - 1} calls refused in turn: {faults} wrong, {wholes} with a whole report")
-    return 1 if faults else 0
+        wrong = [try_each(program, "replay", drawing(), shim), try_each(program, "world", text, shim)]
+    return int(any(wrong))
 
 
 if __name__ == "__main__":
