@@ -1,20 +1,7 @@
 //! Sets of user ids.
 
-ghost use Rattle.std.specs.Prelude.{
-  ◌≡◌,
-  ◌<◌,
-  ◌==◌,
-  ◌&&◌,
-  ◌↔◌,
-  [],
-  false,
-  not,
-  length,
-  if◌then◌else◌,
-  IsTrue,
-  IfOk,
-  All,
-};
+ghost use Rattle.std.specs.Prelude.{◌≡◌, ◌<◌, ◌==◌, ◌&&◌, ◌↔◌, [], true, false, not, length};
+ghost use Rattle.std.specs.Prelude.{if◌then◌else◌, IfOk, All};
 ghost use Rattle.std.specs.List.{filter, list_all};
 ghost use Rattle.dp_acl.specs.LookBack.{lists};
 ghost use Rattle.dp_acl.specs.Rights.{is_open_to};
@@ -98,7 +85,7 @@ impl IdSet {
 
     /// Whether no id is in the set.
     fn is_empty(&self) -> bool
-        ensures { IsTrue result ↔ (marked self.now ≡ []) }
+        ensures { (result ≡ true) ↔ (marked self.now ≡ []) }
     {
         are_clear(&self.marks)
     }

@@ -1,7 +1,7 @@
 -- How the flags of a history go on with one more act, and which are final.
 use Rattle.std.specs.Prelude.{◌≡◌, ℕ, ◌+◌, ◌<◌, ◌≤◌, ◌==◌, ◌&&◌, Bool, true, false, ◌⊎◌}
 use Rattle.std.specs.Prelude.{if◌then◌else◌, Some, None, List, [], ◌∷◌, ◌++◌, take, length}
-use Rattle.std.specs.Prelude.{slice_get}
+use Rattle.std.specs.Prelude.{slice_get, ⊤}
 use Rattle.dp_board.specs.declared.act.Act.{Act}
 use Rattle.dp_board.specs.declared.act.Act.TheVariants.{Redo, Draw}
 use Rattle.dp_board.specs.declared.act.UserAct.{UserAct}
@@ -83,8 +83,8 @@ IsOutOfReach s group =
 
 -- what joined so can't be undone or brought back any more
 abbrev pub IsFinal : {Op : Type 0} → ℕ → List (UserAct Op) → Join → Type 0
-IsFinal depth acts NoCommand = Unit {0}
-IsFinal depth acts GroupZero = Unit {0}
+IsFinal depth acts NoCommand = ⊤
+IsFinal depth acts GroupZero = ⊤
 IsFinal depth acts (InGroup user group) = IsOutOfReach (strokes depth user acts) group
 
 -- an act that joined what can't be undone or brought back has the same flag in each longer history

@@ -1,6 +1,6 @@
 -- The strokes of all users as a history is read.
 use Rattle.std.specs.Prelude.{◌≡◌, ℕ, ◌+◌, ◌<◌, ◌&&◌, not, nat_lt, Bool, false, if◌then◌else◌}
-use Rattle.std.specs.Prelude.{Option}
+use Rattle.std.specs.Prelude.{Option, ⊤}
 use Rattle.std.specs.Prelude.{List, [], ◌∷◌, ◌++◌, length, slice_set, slice_index, min}
 use Rattle.std.specs.List.{fold, All}
 use Rattle.dp_board.specs.declared.act.Act.{Act}
@@ -100,7 +100,7 @@ BeginsOutOfReach w (group ∷ done) = is_eligible w group ≡ false
 
 -- if groups are left out, the first that is kept is out of reach
 abbrev pub IsGuarded : Window → List ℕ → List ℕ → Type 0
-IsGuarded w [] kept = Unit {0}
+IsGuarded w [] kept = ⊤
 IsGuarded w (group ∷ left_out) kept = BeginsOutOfReach w kept
 
 -- of a user's groups all are kept but some first done ones. The first that is kept is out of reach

@@ -1,6 +1,6 @@
 //! A board that is a row of numbers, for tests of what is drawn on any board.
 
-ghost use Rattle.std.specs.Prelude.{◌≡◌, ◌<◌, replicate, slice_get, IfOk};
+ghost use Rattle.std.specs.Prelude.{◌≡◌, ◌<◌, replicate, slice_get, IfOk, ⊤};
 ghost use Rattle.dp_board.specs.Numbers.{number_drawn, numbers_apart};
 
 use crate::board::Board;
@@ -51,7 +51,7 @@ impl NumberBoard {
 impl Board for NumberBoard {
     type Op = SetNumber;
 
-    ghost is_board = { λ _. Unit {0} };
+    ghost is_board = { λ _. ⊤ };
 
     ghost drawn = { number_drawn };
 

@@ -1,7 +1,7 @@
 //! The client.
 
 ghost use Rattle.std.specs.Prelude.{◌≡◌, ◌-◌, ◌^◌, ◌<◌, ◌≤◌, length, map, [], ◌∷◌, Some, None};
-ghost use Rattle.std.specs.Prelude.{take, IsTrue, IfOk, OnOk, OnErr};
+ghost use Rattle.std.specs.Prelude.{take, IfOk, OnOk, OnErr, true};
 ghost use Rattle.dp_board.specs.Counts.{CountsFew};
 ghost use Rattle.dp_client.specs.Client.{answered, welcomed, own_of, last_before};
 ghost use Rattle.dp_client.specs.Client.{is_own_answer, said, took};
@@ -332,7 +332,7 @@ impl<B: Board<Op = Draw> + BlankBoard> Client<B> {
     fn is_own_answer(&self, entry: &Entry) -> bool
         requires { length self.now.taken < 2 ^ 32 - 1 }
         ensures value { result ≡ is_own_answer self.now entry.now }
-        ensures own { IsTrue result → entry.now.user ≡ self.now.user }
+        ensures own { result ≡ true → entry.now.user ≡ self.now.user }
     {
         entry.user == self.user
             && may_answer(&entry.msg)

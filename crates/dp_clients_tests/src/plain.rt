@@ -1,6 +1,6 @@
 //! A plain board that is shared, and the acts of a history.
 
-ghost use Rattle.std.specs.Prelude.{◌≡◌, ◌<◌, IsTrue};
+ghost use Rattle.std.specs.Prelude.{◌≡◌, ◌<◌, true};
 ghost use Rattle.dp_layers.specs.Layers.{is_paint_row};
 ghost use Rattle.dp_layers.specs.Rows.{layers_of};
 
@@ -62,7 +62,7 @@ fn letter(pixel: Pixel) -> char {
 
 /// The letters of the upper row of the pixels of a paint layer.
 fn upper_row<B: BoardView>(rt: &impl Abort, alloc: Global, board: &B, id: u16) -> String
-    requires paint { IsTrue (is_paint_row (layers_of (B.board board.now).rows) id) }
+    requires paint { is_paint_row (layers_of (B.board board.now).rows) id ≡ true }
     requires high { 0 < (B.board board.now).height }
 {
     let mut pixels = vec![in alloc; Pixel::CLEAR; board.width() as usize].expect(rt, "memory");

@@ -1,7 +1,7 @@
 -- The connections of a session, and what is noted beside them: who is present, by which event each
 -- joined, and which are quiet.
 use Rattle.std.specs.Prelude.{◌≡◌, ℕ, ◌+◌, ◌-◌, ◌==◌, Bool, true, false, [], if◌then◌else◌, Option}
-use Rattle.std.specs.Prelude.{None, Some, List, ◌∷◌, ◌++◌, length, slice_set, ◌<◌, ◌&&◌, count_by}
+use Rattle.std.specs.Prelude.{None, Some, List, ◌∷◌, ◌++◌, length, slice_set, ◌<◌, ◌&&◌, count_by, ⊤}
 use Rattle.std.specs.List.{filter, range_with_len}
 use Rattle.dp_epochs.specs.declared.connection.Connection.{Connection}
 use Rattle.dp_epochs.specs.declared.effect.Effect.{Effect}
@@ -39,7 +39,7 @@ flagged flags conn = if conn == 0 then flags else slice_set flags (conn - 1) tru
 abbrev pub IsThere : List Connection → Effect → Type 0
 IsThere connections (TakesUp conn connection) = connection_in connections conn ≡ Some connection
 IsThere connections (Left conn connection next) = connection_in connections conn ≡ Some connection
-IsThere connections other = Unit {0}
+IsThere connections other = ⊤
 
 -- the marks after it
 abbrev pub marks_after : Effect → List Bool → List Bool

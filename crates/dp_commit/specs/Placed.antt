@@ -1,6 +1,6 @@
 -- What an event places, as it was made ahead, and the live history as it is kept after it.
 use Rattle.std.specs.Prelude.{◌≡◌, ℕ, ◌+◌, Bool, true, false, [], Option, None, Some, List, ◌∷◌}
-use Rattle.std.specs.Prelude.{◌++◌, length, drop}
+use Rattle.std.specs.Prelude.{◌++◌, length, drop, ⊤}
 use Rattle.std.specs.Global.{Box}
 use Rattle.dp_messages.specs.declared.message.Entry.{Entry}
 use Rattle.dp_epochs.specs.declared.effect.Effect.{Effect}
@@ -30,7 +30,7 @@ own_items n other = []
 -- an event of which a message is placed says one
 abbrev pub SaysOwn : Event → Effect → Type 0
 SaysOwn e (Placed conn connection) = IsSay (Some e)
-SaysOwn e other = Unit {0}
+SaysOwn e other = ⊤
 
 -- the event opens the next epoch
 abbrev pub opens_epoch : Effect → Bool

@@ -1,7 +1,7 @@
 -- What a reader gives from where a stream stands on: of the bytes that the stream holds, and of
 -- those that are read after them, also if the source's bytes aren't known.
-use Rattle.std.specs.Prelude.{◌≡◌, ℕ, ◌+◌, ◌-◌, ◌<◌, ◌≤◌, ◌↔◌, IsTrue, List, ◌++◌, length, take}
-use Rattle.std.specs.Prelude.{Option, slice_index, ⊤}
+use Rattle.std.specs.Prelude.{◌≡◌, ℕ, ◌+◌, ◌-◌, ◌<◌, ◌≤◌, ◌↔◌, List, ◌++◌, length, take}
+use Rattle.std.specs.Prelude.{Option, slice_index, ⊤, true}
 use Rattle.std.specs.List.{AllByRecursion, flat_map}
 use Rattle.std.specs.Io.KnownBytes.{Consumes}
 use Rattle.dp_frame.specs.Frames.{FrameParts, IsFrame, spelling, HoldsNoFrame}
@@ -51,7 +51,7 @@ pub record ReadOn (MayStand : ℕ → FrameParts → Entry → Type 0) (source l
       (record { held = reader.stream.held; at = at })
   pub first : reader.first ≡ 0
   pub place : reader.stream.at ≡ start.at + at
-  pub over : IsTrue reader.over ↔ (reader.limit < count_from start read)
+  pub over : (reader.over ≡ true) ↔ (reader.limit < count_from start read)
 
 -- What was read to the end of reading. Of the bytes that count the first ones are frames that stand
 -- for the entries. P holds of all that was read and of the rest.

@@ -1,6 +1,6 @@
 -- A reader of entries, and what was read so far.
-use Rattle.std.specs.Prelude.{◌≡◌, ℕ, ◌+◌, ◌-◌, ◌<◌, ◌≤◌, ◌↔◌, Bool, IsTrue, List, ◌++◌, length}
-use Rattle.std.specs.Prelude.{Option, Some, if◌then◌else◌}
+use Rattle.std.specs.Prelude.{◌≡◌, ℕ, ◌+◌, ◌-◌, ◌<◌, ◌≤◌, ◌↔◌, Bool, List, ◌++◌, length}
+use Rattle.std.specs.Prelude.{Option, Some, if◌then◌else◌, true}
 use Rattle.std.specs.List.{AllByRecursion, flat_map}
 use Rattle.dp_frame.specs.Frames.{FrameParts, IsFrame, spelling}
 use Rattle.dp_io.specs.Pieces.{TookPieces}
@@ -66,4 +66,4 @@ pub record HasRead (MayStand : ℕ → FrameParts → Entry → Type 0) (input :
   pub place : length head ≡ reader.first
   pub follows : Follows MayStand (earlier ++ piece) entries reader.count reader.stream
   pub quiet : HoldsNoCause MayStand reader.first reader.limit (head ++ earlier)
-  pub over : IsTrue reader.over ↔ (0 < length cut)
+  pub over : (reader.over ≡ true) ↔ (0 < length cut)

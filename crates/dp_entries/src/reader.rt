@@ -1,6 +1,6 @@
 //! The entries of a source, pulled one at a time.
 
-ghost use Rattle.std.specs.Prelude.{◌≡◌, ◌≢◌, ◌↔◌, ℕ, ◌+◌, ◌-◌, ◌^◌, ◌<◌, ◌≤◌, IsTrue, Err};
+ghost use Rattle.std.specs.Prelude.{◌≡◌, ◌≢◌, ◌↔◌, ℕ, ◌+◌, ◌-◌, ◌^◌, ◌<◌, ◌≤◌, Err, true};
 ghost use Rattle.std.specs.Prelude.{List, [], ◌∷◌, ◌++◌, length, take, Some, OnOk, OnErr};
 ghost use Rattle.std.specs.Prelude.{IfOk, IfErr, IfSome, IfNone, None, IsOkAnd, OnSome};
 ghost use Rattle.std.specs.declared.option.Option.{Option};
@@ -65,8 +65,8 @@ impl<S: Standing> EntryReader<S> {
         ensures first { result.first ≡ first }
         ensures limit { result.limit ≡ limit }
         ensures none { HoldsNoFrame result.stream.held }
-        ensures not_over { ¬ IsTrue result.over }
-        ensures not_ended { ¬ IsTrue result.ended }
+        ensures not_over { ¬ (result.over ≡ true) }
+        ensures not_ended { ¬ (result.ended ≡ true) }
         ensures begun { (bytes head untaken : List ℕ)
             → bytes ≡ head ++ untaken → length head ≡ first
             → HasRead S.may_stand bytes (Some untaken) [] result }
@@ -90,8 +90,8 @@ impl<S: Standing> EntryReader<S> {
         ensures first { result.first ≡ 0 }
         ensures limit { result.limit ≡ limit }
         ensures stream { result.stream ≡ splitter }
-        ensures not_over { ¬ IsTrue result.over }
-        ensures not_ended { ¬ IsTrue result.ended }
+        ensures not_over { ¬ (result.over ≡ true) }
+        ensures not_ended { ¬ (result.ended ≡ true) }
         ensures begun { (source : Option (List ℕ))
             → ReadOn S.may_stand source source splitter [] result }
     {
@@ -115,7 +115,7 @@ impl<S: Standing> EntryReader<S> {
 
     /// Whether a whole frame is held: if one is, the next entry comes without a read.
     pub fn holds_frame(&self) -> bool
-        ensures { IsTrue result ↔ (¬ HoldsNoFrame self.now.stream.held) }
+        ensures { (result ≡ true) ↔ (¬ HoldsNoFrame self.now.stream.held) }
     {
         self.splitter.peek_frame().is_some()
     }
@@ -146,9 +146,9 @@ impl<S: Standing> EntryReader<S> {
         ensures source { SameSource self.old self.new }
 
         // If there is none, the input came to its end, or reading it ended with this error.
-        ensures at_end { ¬ IsTrue self.old.ended → IfOk result (λ next.
+        ensures at_end { ¬ (self.old.ended ≡ true) → IfOk result (λ next.
             IfNone next (IsAtEnd (I.left input.new))) }
-        ensures done { ¬ IsTrue self.old.ended → IfOk result (λ next. IfNone next
+        ensures done { ¬ (self.old.ended ≡ true) → IfOk result (λ next. IfNone next
             ((bytes : List ℕ) (entries : List Item)
             → HasRead S.may_stand bytes (I.left input.old) entries self.old
             → ComesTo S.may_stand self.old.first self.old.limit bytes entries run.Done)) }
@@ -164,7 +164,7 @@ impl<S: Standing> EntryReader<S> {
             → ReadOn S.may_stand source (I.left input.old) start entries self.old
             → ReadOn S.may_stand source (I.left input.new) start (entries ++ entry ∷ [])
             self.new)) }
-        ensures goes_to_end { ¬ IsTrue self.old.ended → IfOk result (λ next. IfNone next
+        ensures goes_to_end { ¬ (self.old.ended ≡ true) → IfOk result (λ next. IfNone next
             ((source : Option (List ℕ)) (start : Stream) (entries : List Item)
             → ReadOn S.may_stand source (I.left input.old) start entries self.old
             → EndsOn S.may_stand self.old.limit source (I.left input.new) start entries)) }
@@ -176,9 +176,9 @@ impl<S: Standing> EntryReader<S> {
         ensures few { ReachesFew self.old.stream self.new.stream }
 
         // It has ended then, and stays so.
-        ensures not_ended { IfOk result (λ next. OnSome next (¬ IsTrue self.new.ended)) }
-        ensures ended { OnErr result (IsTrue self.new.ended) }
-        ensures fused { IsTrue self.old.ended → IsOkAnd result (λ next. (next ≡ None)
+        ensures not_ended { IfOk result (λ next. OnSome next (¬ (self.new.ended ≡ true))) }
+        ensures ended { OnErr result (self.new.ended ≡ true) }
+        ensures fused { self.old.ended ≡ true → IsOkAnd result (λ next. (next ≡ None)
             × (self.new ≡ self.old) × (I.left input.new ≡ I.left input.old)) }
 
         // A fault is answered if the count of the input's faults rose, and else it stays.
@@ -213,7 +213,7 @@ impl<S: Standing> EntryReader<S> {
     /// Takes bytes that were read of the source already, the next ones. Those that count are held.
     /// After an error nothing has changed.
     pub fn push(&mut self, bytes: &[u8]) -> Result<(), AllocError>
-        requires not_over { ¬ IsTrue self.old.over }
+        requires not_over { ¬ (self.old.over ≡ true) }
         requires none { HoldsNoFrame self.old.stream.held }
         ensures read { OnOk result ((input : List ℕ) (left rest : Option (List ℕ))
             (entries : List Item) → length bytes.now ≤ 4096 → Consumes left rest bytes.now
@@ -251,17 +251,17 @@ impl<S: Standing> EntryReader<S> {
         ensures read { OnOk result ((bytes : List ℕ) (entries : List Item)
             → HasRead S.may_stand bytes (I.left input.old) entries self.old
             → HasRead S.may_stand bytes (I.left input.new) entries self.new) }
-        ensures held { IfOk result (λ more. IsTrue more
+        ensures held { IfOk result (λ more. more ≡ true
             → ¬ HoldsNoFrame self.new.stream.held) }
 
         // If a whole frame is held, nothing is read.
-        ensures ready { ¬ HoldsNoFrame self.old.stream.held → IsOkAnd result (λ more. IsTrue more) }
+        ensures ready { ¬ HoldsNoFrame self.old.stream.held → IsOkAnd result (λ more. more ≡ true) }
         ensures idle { ¬ HoldsNoFrame self.old.stream.held
             → (self.new ≡ self.old) × (I.left input.new ≡ I.left input.old) }
 
         // If there is none, the input came to its end, or reading it ended with this error.
-        ensures at_end { IfOk result (λ more. ¬ IsTrue more → IsAtEnd (I.left input.new)) }
-        ensures done { IfOk result (λ more. ¬ IsTrue more → (bytes : List ℕ) (entries : List Item)
+        ensures at_end { IfOk result (λ more. ¬ (more ≡ true) → IsAtEnd (I.left input.new)) }
+        ensures done { IfOk result (λ more. ¬ (more ≡ true) → (bytes : List ℕ) (entries : List Item)
             → HasRead S.may_stand bytes (I.left input.old) entries self.old
             → ComesTo S.may_stand self.old.first self.old.limit bytes entries run.Done) }
         ensures ends { IfErr result (λ end. (bytes : List ℕ) (entries : List Item)
@@ -277,7 +277,7 @@ impl<S: Standing> EntryReader<S> {
             (entries : List Item)
             → ReadOn S.may_stand source (I.left input.old) start entries self.old
             → ReadOn S.may_stand source (I.left input.new) start entries self.new) }
-        ensures goes_to_end { IfOk result (λ more. ¬ IsTrue more
+        ensures goes_to_end { IfOk result (λ more. ¬ (more ≡ true)
             → (source : Option (List ℕ)) (start : Stream) (entries : List Item)
             → ReadOn S.may_stand source (I.left input.old) start entries self.old
             → EndsOn S.may_stand self.old.limit source (I.left input.new) start entries) }
@@ -364,11 +364,11 @@ impl<S: Standing> EntryReader<S> {
         ensures read { OnOk result ((bytes : List ℕ) (entries : List Item)
             → HasRead S.may_stand bytes (I.left input.old) entries self.old
             → HasRead S.may_stand bytes (I.left input.new) entries self.new) }
-        ensures further { IfOk result (λ more. IsTrue more
+        ensures further { IfOk result (λ more. more ≡ true
             → measure_of self.new < measure_of self.old) }
-        ensures same { IfOk result (λ more. ¬ IsTrue more → self.new ≡ self.old) }
-        ensures at_end { IfOk result (λ more. ¬ IsTrue more → IsAtEnd (I.left input.new)) }
-        ensures not_over { OnOk result (¬ IsTrue self.old.over) }
+        ensures same { IfOk result (λ more. ¬ (more ≡ true) → self.new ≡ self.old) }
+        ensures at_end { IfOk result (λ more. ¬ (more ≡ true) → IsAtEnd (I.left input.new)) }
+        ensures not_over { OnOk result (¬ (self.old.over ≡ true)) }
         ensures within { HoldsWithin self.new }
         ensures place { SamePlace self.old self.new }
         ensures ends { IfErr result (λ end. (bytes : List ℕ) (entries : List Item)
@@ -415,7 +415,8 @@ impl<S: Standing> EntryReader<S> {
     fn feed(&mut self, bytes: &[u8]) -> Result<(), AllocError>
         ensures held { OnOk result (self.new.stream.held
             ≡ self.old.stream.held ++ take (room_of self.old) bytes.now) }
-        ensures over { OnOk result (IsTrue self.new.over ↔ (room_of self.old < length bytes.now)) }
+        ensures over { OnOk result ((self.new.over ≡ true)
+            ↔ (room_of self.old < length bytes.now)) }
         ensures small { AreBytes bytes.now }
         ensures place { SamePlace self.old self.new }
         ensures count { self.new.count ≡ self.old.count }
@@ -439,7 +440,7 @@ impl<S: Standing> EntryReader<S> {
     /// If nothing is left of the input and no whole frame is held, no byte is held.
     fn check_end(&self) -> Result<(), ReadEnd<S::Cause>>
         requires none { HoldsNoFrame self.now.stream.held }
-        requires not_over { ¬ IsTrue self.now.over }
+        requires not_over { ¬ (self.now.over ≡ true) }
         requires within { HoldsWithin self.now }
         requires fits { self.now.limit < 2 ^ 64 }
         ensures done { OnOk result ((bytes : List ℕ) (left : Option (List ℕ))

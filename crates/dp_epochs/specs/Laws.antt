@@ -1,6 +1,6 @@
 -- What laws of sessions speak of.
 use Rattle.std.specs.Prelude.{◌≡◌, ◌≤◌, ◌<◌, ◌⊎◌, ℕ, Bool, true, false, None, Some, List, [], ◌∷◌}
-use Rattle.std.specs.Prelude.{◌++◌, length, Result, Ok, Err}
+use Rattle.std.specs.Prelude.{◌++◌, length, Result, Ok, Err, ⊤}
 use Rattle.std.specs.List.{All, AllByRecursion}
 use Rattle.std.specs.declared.alloc.AllocError.{AllocError}
 use Rattle.dp_messages.specs.declared.message.Entry.{Entry}
@@ -62,18 +62,18 @@ pub record LoggedStep : Type 0 where
 
 -- each step is one that a session may make, from what the one before left
 abbrev pub IsRun : Past → List LoggedStep → Type 0
-IsRun past [] = Unit {0}
+IsRun past [] = ⊤
 IsRun past (outcome ∷ log) =
     Step past outcome.event outcome.answer outcome.left × IsRun outcome.left log
 
 -- the fault of this count was answered, or memory ran out
 abbrev pub IsFault : ℕ → Result Reply AllocError → Type 0
 IsFault first (Ok answer) = answer ≡ StoreFault first
-IsFault first (Err want) = Unit {0}
+IsFault first (Err want) = ⊤
 
 -- that is so of each outcome
 abbrev pub AreFaults : ℕ → List LoggedStep → Type 0
-AreFaults first [] = Unit {0}
+AreFaults first [] = ⊤
 AreFaults first (outcome ∷ log) = IsFault first outcome.answer × AreFaults first log
 
 -- each closing that was refused was so while no more events were kept than now

@@ -1,7 +1,7 @@
 -- The bytes of a valid field say which it is, whatever follows: a number, a flag, or one field
 -- after another.
 use Rattle.std.proofs.Common.{◌≡◌, ℕ, ℤ, ◌^◌, ◌<◌, Bool, true, false, List, ◌++◌}
-use Rattle.std.proofs.Common.{drop, refl, sym, ap, ◌∙◌, append_assoc, arith}
+use Rattle.std.proofs.Common.{drop, refl, sym, ap, ◌∙◌, append_assoc, arith, ⊤}
 use Rattle.std.specs.Int.{w32, cast_unsigned, cast_signed}
 use Rattle.std.specs.Int.RustNames.{FitsSigned}
 use Rattle.std.proofs.lemmas.Int.{to_z-of_z}
@@ -45,14 +45,14 @@ one_signed x y s t fx fy e =
 pub signed_field : IsField four_signed (λ z. FitsSigned w32 z)
 signed_field = record { one = one_signed }
 
-one_flag : (x y : Bool) (s t : List ℕ) → Unit {0} → Unit {0} → flag_byte x ++ s ≡ flag_byte y ++ t
+one_flag : (x y : Bool) (s t : List ℕ) → ⊤ → ⊤ → flag_byte x ++ s ≡ flag_byte y ++ t
     → (x ≡ y) × (s ≡ t)
 one_flag false false s t u v e = (refl, cc)
 one_flag false true s t u v e = absurd cc
 one_flag true false s t u v e = absurd cc
 one_flag true true s t u v e = (refl, cc)
 
-pub flag_field : IsField flag_byte (λ flag. Unit {0})
+pub flag_field : IsField flag_byte (λ flag. ⊤)
 flag_field = record { one = one_flag }
 
 one_pair : {X Y : Type 0} (spell : X → List ℕ) (valid : X → Type 0) (spell' : Y → List ℕ)

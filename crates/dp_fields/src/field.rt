@@ -1,6 +1,6 @@
 //! Fields of a payload: how each is taken from the beginning of bytes, and put at their end.
 
-ghost use Rattle.std.specs.Prelude.{◌≡◌, ◌<◌, ◌^◌, ◌++◌, ℕ, List, length, IfSome, IfNone, OnOk};
+ghost use Rattle.std.specs.Prelude.{◌≡◌, ◌<◌, ◌^◌, ◌++◌, ℕ, List, length, IfSome, IfNone, OnOk, ⊤};
 ghost use Rattle.std.specs.Int.{w32};
 ghost use Rattle.std.specs.Int.RustNames.{FitsSigned};
 ghost use Rattle.dp_fields.specs.Fields.{one_byte, two_bytes, four_bytes, four_signed, flag_byte};
@@ -115,7 +115,7 @@ impl Field for i32 {
 impl Field for bool {
     ghost spelling = { flag_byte };
 
-    ghost valid = { λ _. Unit {0} };
+    ghost valid = { λ _. ⊤ };
 
     ghost is_field = { flag_field };
 

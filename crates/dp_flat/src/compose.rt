@@ -1,6 +1,6 @@
 //! Layers composed a tile at a time.
 
-ghost use Rattle.std.specs.Prelude.{◌≡◌, ◌+◌, ◌*◌, ◌<◌, ◌≤◌, ℕ, Some, IsTrue, false, length};
+ghost use Rattle.std.specs.Prelude.{◌≡◌, ◌+◌, ◌*◌, ◌<◌, ◌≤◌, ℕ, Some, false, length, true};
 ghost use Rattle.dp_blend.specs.Blending.{blend};
 ghost use Rattle.dp_blend.specs.Color.{white};
 ghost use Rattle.dp_layers.specs.Layers.{row_of};
@@ -159,7 +159,7 @@ fn first_to_lay<V: BoardView>(board: &V, parent: u16, tile: TileAt) -> usize
 fn hides_below<V: BoardView>(board: &V, row: &LayerRow, tile: TileAt) -> bool
     requires known { row_of (layers_of (V.board board.now).rows) row.now.id ≡ Some row.now }
     requires tile { IsOnBoard (V.board board.now) tile }
-    ensures { IsTrue result → HidesBelow (V.board board.now) row.now tile }
+    ensures { result ≡ true → HidesBelow (V.board board.now) row.now tile }
 {
     let mode = mode_of(row);
     if mode == Mode::Replace {

@@ -4,7 +4,7 @@
 //!
 //! The rule: docs/protocol.md, "The picture".
 
-ghost use Rattle.std.specs.Prelude.{◌≡◌, ◌<◌, ◌≤◌, ℕ, All, IsTrue, List, length, slice_index_or};
+ghost use Rattle.std.specs.Prelude.{◌≡◌, ◌<◌, ◌≤◌, ℕ, All, List, length, slice_index_or, true};
 ghost use Rattle.dp_blend.specs.Color.{Channels, IsPixel, clear, fade};
 ghost use Rattle.dp_blend.specs.Blending.{blend};
 ghost use Rattle.dp_pixels.specs.Tiles.{tile_pixel};
@@ -128,7 +128,7 @@ fn known_pixels(pixels: &[Pixel])
 
 /// Whether the colour takes the place of whatever it is laid on.
 pub(crate) fn hides(mode: Mode, color: Pixel) -> bool
-    ensures { IsTrue result → (under : Channels) → blend mode color under ≡ color }
+    ensures { result ≡ true → (under : Channels) → blend mode color under ≡ color }
 {
     match mode {
         Mode::Replace => true,
@@ -139,9 +139,9 @@ pub(crate) fn hides(mode: Mode, color: Pixel) -> bool
 
 /// Whether each pixel stays as it is if the colour is laid on it, whatever that is faded by.
 fn shows_nothing(mode: Mode, color: Pixel) -> bool
-    ensures plain { IsTrue result → (under : Channels) → IsPixel under
+    ensures plain { result ≡ true → (under : Channels) → IsPixel under
         → blend mode color under ≡ under }
-    ensures faded { IsTrue result → (opacity : ℕ) → fade color opacity ≡ color }
+    ensures faded { result ≡ true → (opacity : ℕ) → fade color opacity ≡ color }
 {
     color == Pixel::CLEAR && mode != Mode::Replace
 }
@@ -166,7 +166,7 @@ fn lay_pixels(mode: Mode, opacity: u16, pixels: &[Pixel], under: Tone, buffer: &
 /// Whether a tile shows just the pixels that are laid on it so: it is clear, and they are laid in
 /// the normal mode and not faded.
 pub(crate) fn shows_source(mode: Mode, opacity: u16, under: &Tone) -> bool
-    ensures { IsTrue result → (p : Channels) (pixels : List Channels) (i : ℕ)
+    ensures { result ≡ true → (p : Channels) (pixels : List Channels) (i : ℕ)
         → blend mode (fade p opacity) (tone_at under.now pixels i) ≡ p }
 {
     fade_by_one_keeps();

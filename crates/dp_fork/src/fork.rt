@@ -2,7 +2,7 @@
 
 ghost use Rattle.std.specs.Prelude.{◌≡◌, ◌≤◌, ◌∷◌, ◌++◌, [], true, false, not, ◌&&◌, ◌||◌};
 ghost use Rattle.std.specs.Prelude.{length, drop, take};
-ghost use Rattle.std.specs.Prelude.{None, IsTrue, OnOk, OnErr, List, option_map};
+ghost use Rattle.std.specs.Prelude.{None, OnOk, OnErr, List, option_map};
 ghost use Rattle.std.specs.List.{fold, list_any};
 ghost use Rattle.dp_board.specs.declared.act.Act.{Act as ActOf};
 ghost use Rattle.dp_board.specs.declared.act.Change.{Change as Changed};
@@ -208,7 +208,7 @@ impl<B: Board> Fork<B> {
     /// Whether the fork needs no drawing if such an act is taken, whatever it changes.
     pub fn is_quiet(&self, act: &Act<B::Op>, own: Own) -> bool
         ensures value { result ≡ is_quiet act.now own self.now.acts }
-        ensures settled { IsTrue result → (change : Changed) → MovesBy change act.now
+        ensures settled { result ≡ true → (change : Changed) → MovesBy change act.now
             → is_settled act.now change own self.now.acts ≡ true }
     {
         !has_command(&self.acts, self.first_left(own)) || (!may_move(act) && self.is_calm(act, own))

@@ -1,5 +1,5 @@
 -- Logs of a machine: who acted what, what came of it, and the machine left.
-use Rattle.std.specs.Prelude.{ℕ, Bool, true, false, ◌&&◌, ◌==◌, if◌then◌else◌, List, [], ◌∷◌}
+use Rattle.std.specs.Prelude.{ℕ, Bool, true, false, ◌&&◌, ◌==◌, if◌then◌else◌, List, [], ◌∷◌, ⊤}
 use Rattle.dp_hall.specs.declared.view.Entry.{Entry}
 
 -- whether two names are one list of numbers
@@ -17,7 +17,7 @@ module _ {E O M : Type 0} where
 
   -- each entry is a step from the machine that the entries before leave
   abbrev pub IsLegal : (M → E → O → M → Type 0) → M → List (Entry E O M) → Type 0
-  IsLegal may m [] = Unit {0}
+  IsLegal may m [] = ⊤
   IsLegal may m (e ∷ log) = may m e.event e.outcome e.left × IsLegal may e.left log
 
   -- the entries by a name, in order

@@ -1,6 +1,6 @@
 -- The names of seats: which were given out, by whom, and if they are now.
 use Rattle.std.specs.Prelude.{◌≡◌, ◌⊎◌, ℕ, ◌+◌, ◌<◌, Bool, true, false, ◌&&◌, ◌==◌, if◌then◌else◌}
-use Rattle.std.specs.Prelude.{List, [], ◌∷◌, ◌++◌, map}
+use Rattle.std.specs.Prelude.{List, [], ◌∷◌, ◌++◌, map, ⊤}
 use mathlib.Core.Option.{some}
 use lib.ListN.{get_elem?}
 use Rattle.dp_hall.specs.declared.view.Entry.{Entry}
@@ -14,7 +14,7 @@ IsIn x (y ∷ ys) = (x ≡ y) ⊎ IsIn x ys
 
 -- no two of the list are equal
 abbrev pub AreDistinct : {A : Type 0} → List A → Type 0
-AreDistinct [] = Unit {0}
+AreDistinct [] = ⊤
 AreDistinct (x ∷ xs) = ¬ IsIn x xs × AreDistinct xs
 
 -- a name is one of these with one number added

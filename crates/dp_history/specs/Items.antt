@@ -1,5 +1,5 @@
 -- Entries of a history as they are kept beside a journal.
-use Rattle.std.specs.Prelude.{◌≡◌, ℕ, true}
+use Rattle.std.specs.Prelude.{◌≡◌, ℕ, true, ⊤}
 use Rattle.std.specs.Prelude.{if◌then◌else◌, Option, None, Some, is_some, unwrap_or}
 use Rattle.std.specs.Prelude.{List, slice_get}
 use Rattle.std.specs.List.{filter_map}
@@ -24,7 +24,7 @@ message_of other = msg.Point
 
 -- the event is there, and says a message
 abbrev pub IsSay : Option Event → Type 0
-IsSay (Some (Say conn m)) = Unit {0}
+IsSay (Some (Say conn m)) = ⊤
 IsSay other = ⊥
 
 -- the command of the part that the event says, if it says one
@@ -52,7 +52,7 @@ abbrev pub IsIn : List Event → HistoryItem → Type 0
 IsIn journal (Said event user) = IsSay (slice_get journal event)
 IsIn journal (Joined event user) = is_some (join_of user (slice_get journal event)) ≡ true
 IsIn journal (Command event) = is_some (part_of (slice_get journal event)) ≡ true
-IsIn journal (Server entry) = Unit {0}
+IsIn journal (Server entry) = ⊤
 
 -- the event of this number says a part
 abbrev pub IsPart : List Event → ℕ → Type 0

@@ -1,6 +1,6 @@
 //! The calls that an object in memory makes fail: a source, a sink or a wire.
 
-ghost use Rattle.std.specs.Prelude.{◌≡◌, ◌≤◌, ◌^◌, ◌<◌, ◌↔◌, IsTrue};
+ghost use Rattle.std.specs.Prelude.{◌≡◌, ◌≤◌, ◌^◌, ◌<◌, ◌↔◌, true};
 ghost use Rattle.dp_io.specs.Faults.{Failures, IsDue, one_more, counted};
 
 use crate::Failed;
@@ -36,7 +36,7 @@ impl FaultPlan {
 
     /// Counts a call, and answers whether it is to fail.
     pub fn next_fails(&mut self) -> bool
-        ensures due { IsTrue result ↔ IsDue self.old }
+        ensures due { (result ≡ true) ↔ IsDue self.old }
         ensures counted { self.new ≡ counted self.old }
     {
         match self.calls.checked_add(1) {

@@ -1,5 +1,5 @@
 -- Which frames may stand on a link to a server.
-use Rattle.std.specs.Prelude.{◌≡◌, ℕ, Bool, true, false, ◌==◌, ◌||◌, nat_le, if◌then◌else◌, IsTrue}
+use Rattle.std.specs.Prelude.{◌≡◌, ℕ, Bool, true, false, ◌==◌, ◌||◌, nat_le, if◌then◌else◌}
 use Rattle.dp_frame.specs.Frames.{FrameParts}
 use Rattle.dp_msg_meta.specs.declared.message.Control.TheVariants.{Ping, Welcome}
 use Rattle.dp_messages.specs.declared.decoder.DecodeError.{DecodeError}
@@ -36,14 +36,14 @@ may_come before m =
 -- with `before` frames before it, the frame stands for the entry: it carries it, and such a message
 -- may come
 abbrev pub StandsOnLink : ℕ → FrameParts → Entry → Type 0
-StandsOnLink before frame entry = Carries frame entry × IsTrue (may_come before entry.msg)
+StandsOnLink before frame entry = Carries frame entry × (may_come before entry.msg ≡ true)
 
 -- with `before` frames before it, the frame may not stand: it carries no message, or one of this
 -- kind that may not come
 abbrev pub IsFlaw : ℕ → FrameParts → LinkFlaw → Type 0
 IsFlaw before frame (NoMessage why) = IsPayloadRefused frame.kind frame.body why
 IsFlaw before frame (Misplaced kind) =
-    (entry : Entry) × Carries frame entry × (¬ IsTrue (may_come before entry.msg))
+    (entry : Entry) × Carries frame entry × (¬ (may_come before entry.msg ≡ true))
     × (kind ≡ kind_of entry.msg)
 
 -- why a frame that isn't decoded gives no entry

@@ -1,5 +1,5 @@
 -- What a run of `join` comes to.
-use Rattle.std.specs.Prelude.{◌≡◌, ◌⊎◌, ℕ, ◌≤◌, false, IsTrue, List, [], ◌∷◌, ◌++◌, length}
+use Rattle.std.specs.Prelude.{◌≡◌, ◌⊎◌, ℕ, ◌≤◌, false, List, [], ◌∷◌, ◌++◌, length, true, ⊤}
 use Rattle.std.specs.List.{AllByRecursion, flat_map}
 use Rattle.dp_frame.specs.Frames.{FrameParts, IsFrame, spelling}
 use Rattle.dp_msg_draw.specs.declared.draw.Draw.{Draw}
@@ -29,7 +29,7 @@ IsJoinStep done line = (action : JoinAction) × Asks line.bytes action
 
 -- the lines ask for these actions, one each
 abbrev pub AllAsk : List Line → List JoinAction → Type 0
-AllAsk [] [] = Unit {0}
+AllAsk [] [] = ⊤
 AllAsk [] (action ∷ actions) = ⊥
 AllAsk (line ∷ lines) [] = ⊥
 AllAsk (line ∷ lines) (action ∷ actions) = Asks line.bytes action × AllAsk lines actions
@@ -53,7 +53,7 @@ LinkComesTo link entries end = ComesTo StandsOnLink 0 stream_limit link entries 
 -- frame; or a frame came that may not stand, or more bytes than count.
 abbrev pub EndsLink : List ℕ → List Entry → LinkCause → Type 0
 EndsLink link entries cause.Closed =
-    (BeginsWith link entries × IsTrue (is_closed entries))
+    (BeginsWith link entries × (is_closed entries ≡ true))
     ⊎ ((is_closed entries ≡ false) × LinkComesTo link entries run.Done)
     ⊎ ((is_closed entries ≡ false) × (n : ℕ) × LinkComesTo link entries (run.Truncated n))
 EndsLink link entries (cause.BadMessage n) =

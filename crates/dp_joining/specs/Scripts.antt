@@ -1,5 +1,5 @@
 -- The lines of a script, done one after the other.
-use Rattle.std.specs.Prelude.{◌≡◌, ◌⊎◌, ℕ, ◌≤◌, List, [], ◌∷◌, ◌++◌}
+use Rattle.std.specs.Prelude.{◌≡◌, ◌⊎◌, ℕ, ◌≤◌, List, [], ◌∷◌, ◌++◌, ⊤}
 use Rattle.dp_lines.specs.declared.line.Line.{Line}
 use Rattle.dp_messages.specs.declared.message.Entry.{Entry}
 use Rattle.dp_messages.specs.Messages.{kind_of}
@@ -21,19 +21,19 @@ use Rattle.dp_joining.specs.Steps.{IsNoEntry, ReadsOn, ReadsUpTo, Seen, Stands, 
 -- a message that the action says may be sent by a client: it is no control message
 abbrev pub IsSendable : JoinAction → Type 0
 IsSendable (Say m) = 32 ≤ kind_of m
-IsSendable (Take count) = Unit {0}
-IsSendable View = Unit {0}
-IsSendable Confirmed = Unit {0}
-IsSendable Snapshot = Unit {0}
-IsSendable (Reset keeps) = Unit {0}
-IsSendable Chat = Unit {0}
+IsSendable (Take count) = ⊤
+IsSendable View = ⊤
+IsSendable Confirmed = ⊤
+IsSendable Snapshot = ⊤
+IsSendable (Reset keeps) = ⊤
+IsSendable Chat = ⊤
 
 -- why no action is had of a line: it asks for nothing, or memory ran out
 abbrev pub IsJoinLineRefused : Line → Undone JoinStop → Type 0
 IsJoinLineRefused line undone.NoStep = (action : JoinAction) → ¬ Asks line.bytes action
 IsJoinLineRefused line (undone.Ended WriteFault) = ⊥
 IsJoinLineRefused line (undone.Ended LinkFault) = ⊥
-IsJoinLineRefused line (undone.Ended Memory) = Unit {0}
+IsJoinLineRefused line (undone.Ended Memory) = ⊤
 IsJoinLineRefused line (undone.Ended (NoEntry why)) = ⊥
 
 -- all the lines are done, with all the entries

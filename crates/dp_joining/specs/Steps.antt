@@ -1,6 +1,6 @@
 -- How a client over a link goes on.
-use Rattle.std.specs.Prelude.{◌≡◌, ◌⊎◌, ℕ, ◌+◌, ◌<◌, ◌≤◌, false, IsTrue, List, [], ◌∷◌, ◌++◌}
-use Rattle.std.specs.Prelude.{length, Option}
+use Rattle.std.specs.Prelude.{◌≡◌, ◌⊎◌, ℕ, ◌+◌, ◌<◌, ◌≤◌, false, List, [], ◌∷◌, ◌++◌}
+use Rattle.std.specs.Prelude.{length, Option, true, ⊤}
 use Rattle.std.specs.Io.KnownBytes.{Appends}
 use Rattle.circular_buffer.specs.Buffer.{Buffer, buffer, keep_last}
 use Rattle.dp_board.specs.Counts.{CountsFew}
@@ -41,7 +41,7 @@ pub record IsReadable (s : Source) : Type 0 where
   pub within : s.reader.stream.at ≤ stream_limit
   pub first : s.reader.first ≡ 0
   pub limit : s.reader.limit ≡ stream_limit
-  pub going : ¬ IsTrue s.reader.ended
+  pub going : ¬ (s.reader.ended ≡ true)
 
 -- what the link gave goes on by these entries, none of which closes it
 pub record ReadsOn (old now : Source) (given : List Entry) : Type 0 where
@@ -196,7 +196,7 @@ abbrev pub IsNoEntry : JoinStop → Type 0
 IsNoEntry WriteFault = ⊥
 IsNoEntry LinkFault = ⊥
 IsNoEntry Memory = ⊥
-IsNoEntry (NoEntry why) = Unit {0}
+IsNoEntry (NoEntry why) = ⊤
 
 -- the client goes on by this change
 abbrev pub Moves : Seen → Seen → (Joining → Joining) → Type 0

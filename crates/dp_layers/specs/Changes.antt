@@ -1,5 +1,5 @@
 -- What the commands on layers make of the rows. A command that isn't given an effect leaves them.
-use Rattle.std.specs.Prelude.{ℕ, ◌-◌, Bool, false, not, ◌&&◌, ◌||◌, ◌==◌, nat_lt}
+use Rattle.std.specs.Prelude.{ℕ, ◌-◌, Bool, false, not, ◌&&◌, ◌||◌, ◌==◌, nat_lt, ⊤}
 use Rattle.std.specs.Prelude.{if◌then◌else◌, Option, List, [], ◌∷◌, ◌++◌, length, map}
 use Rattle.std.specs.List.{filter}
 use Rattle.dp_msg_draw.specs.declared.draw.Draw.{Draw}
@@ -132,21 +132,21 @@ makes_paint_row _ = false
 
 -- the kinds of the commands on layers
 abbrev pub IsCreate : Draw → Type 0
-IsCreate (LayerCreate id parent group title) = Unit {0}
+IsCreate (LayerCreate id parent group title) = ⊤
 IsCreate _ = ⊥
 
 abbrev pub IsAttr : Draw → Type 0
-IsAttr (LayerAttr id opacity mode hidden) = Unit {0}
+IsAttr (LayerAttr id opacity mode hidden) = ⊤
 IsAttr _ = ⊥
 
 abbrev pub IsTitleChange : Draw → Type 0
-IsTitleChange (LayerTitle id title) = Unit {0}
+IsTitleChange (LayerTitle id title) = ⊤
 IsTitleChange _ = ⊥
 
 abbrev pub IsMove : Draw → Type 0
-IsMove (LayerMove id parent above) = Unit {0}
+IsMove (LayerMove id parent above) = ⊤
 IsMove _ = ⊥
 
 abbrev pub IsDelete : Draw → Type 0
-IsDelete (LayerDelete id) = Unit {0}
+IsDelete (LayerDelete id) = ⊤
 IsDelete _ = ⊥

@@ -1,7 +1,7 @@
 -- What a tree keeps, in the words of the code: a list of rows, and what the paint rows hold, by id.
 use Rattle.std.specs.Prelude.{◌≡◌, ℕ, ◌+◌, Bool, ◌==◌, if◌then◌else◌}
 use Rattle.std.specs.Prelude.{Option, None, Some, is_some, option_map}
-use Rattle.std.specs.Prelude.{List, [], ◌∷◌, map, position}
+use Rattle.std.specs.Prelude.{List, [], ◌∷◌, map, position, ⊤}
 use Rattle.std.specs.List.{find, filter, list_any}
 use Rattle.std.specs.Option.{option_map_or}
 use Rattle.dp_msg_draw.specs.declared.draw.Draw.{Draw}
@@ -64,18 +64,18 @@ is_gone gone id = list_any (λ other. other == id) gone
 
 -- the command is one on layers
 abbrev pub IsOnLayers : Draw → Type 0
-IsOnLayers (LayerCreate id parent group title) = Unit {0}
-IsOnLayers (LayerAttr id opacity mode hidden) = Unit {0}
-IsOnLayers (LayerTitle id title) = Unit {0}
-IsOnLayers (LayerMove id parent above) = Unit {0}
-IsOnLayers (LayerDelete id) = Unit {0}
+IsOnLayers (LayerCreate id parent group title) = ⊤
+IsOnLayers (LayerAttr id opacity mode hidden) = ⊤
+IsOnLayers (LayerTitle id title) = ⊤
+IsOnLayers (LayerMove id parent above) = ⊤
+IsOnLayers (LayerDelete id) = ⊤
 IsOnLayers _ = ⊥
 
 -- the command changes rows, and makes none and takes none away
 abbrev pub IsRearranging : Draw → Type 0
-IsRearranging (LayerAttr id opacity mode hidden) = Unit {0}
-IsRearranging (LayerTitle id title) = Unit {0}
-IsRearranging (LayerMove id parent above) = Unit {0}
+IsRearranging (LayerAttr id opacity mode hidden) = ⊤
+IsRearranging (LayerTitle id title) = ⊤
+IsRearranging (LayerMove id parent above) = ⊤
 IsRearranging _ = ⊥
 
 -- the rows after such a command

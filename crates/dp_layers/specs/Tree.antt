@@ -1,6 +1,6 @@
 -- What the rows of a tree of layers keep to.
-use Rattle.std.specs.Prelude.{◌≡◌, ◌≢◌, ◌≤◌, false, not, ◌==◌, IsTrue, is_some}
-use Rattle.std.specs.Prelude.{List, map, length, All}
+use Rattle.std.specs.Prelude.{◌≡◌, ◌≢◌, ◌≤◌, false, not, ◌==◌, is_some}
+use Rattle.std.specs.Prelude.{List, map, length, All, true}
 use Rattle.std.specs.List.{IsDistinct}
 use Rattle.dp_msg_draw.specs.Limits.{IsListedMode}
 use Rattle.dp_layers.specs.declared.row.LayerRow.{LayerRow}
@@ -13,9 +13,9 @@ use Rattle.dp_layers.specs.Rows.{Row, layers_of}
 pub record IsLayerTree (rows : List LayerRow) : Type 0 where
   pub distinct : IsDistinct ◌==◌ (map (λ row. row.id) rows)
   pub numbered : All (λ row. row.id ≢ 0) rows
-  pub parents : All (λ row. IsTrue (is_root_or_group rows row.parent)) rows
+  pub parents : All (λ row. is_root_or_group rows row.parent ≡ true) rows
   pub apart : All (λ row. is_below nesting_limit rows row.id row.id ≡ false) rows
-  pub within : All (λ row. IsTrue (is_within nesting_limit rows row.id)) rows
+  pub within : All (λ row. is_within nesting_limit rows row.id ≡ true) rows
   pub few : length rows ≤ row_limit
   pub modes : All (λ row. IsListedMode row.mode) rows
 

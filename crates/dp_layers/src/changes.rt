@@ -1,6 +1,6 @@
 //! Changes of the list of rows, and of what the paint rows hold.
 
-ghost use Rattle.std.specs.Prelude.{◌≡◌, ◌≢◌, ◌==◌, ◌⊎◌, not, true, IsTrue, [], ◌∷◌, ◌++◌, map};
+ghost use Rattle.std.specs.Prelude.{◌≡◌, ◌≢◌, ◌==◌, ◌⊎◌, not, true, [], ◌∷◌, ◌++◌, map};
 ghost use Rattle.std.specs.Prelude.{IfOk, OnOk, OnErr};
 ghost use Rattle.std.specs.List.{filter, IsDistinct};
 ghost use Rattle.dp_layers.specs.Layers.{has_id, has_row};
@@ -124,8 +124,8 @@ fn set_parent(rows: &mut [LayerRow], id: u16, parent: u16)
 /// Takes the row of the id out, and puts it directly after the row `above`, or first.
 fn insert_after(rows: &mut Vec<LayerRow>, id: u16, above: u16)
     requires distinct { IsDistinct ◌==◌ (map (λ row. row.id) rows.old.items) }
-    requires present { IsTrue (has_row rows.old.items id) }
-    requires place { (above ≡ 0) ⊎ (IsTrue (has_row rows.old.items above) × (above ≢ id)) }
+    requires present { has_row rows.old.items id ≡ true }
+    requires place { (above ≡ 0) ⊎ ((has_row rows.old.items above ≡ true) × (above ≢ id)) }
     ensures { rows.new.items ≡ placed has_id rows.old.items id above }
 {
     let Some(from) = place_of(rows, id) else {

@@ -1,7 +1,7 @@
 //! Laws of the definitions, each the contract of a function that does nothing.
 
-ghost use Rattle.std.specs.Prelude.{◌≡◌, ◌↔◌, ℕ, not, Option, Some, is_some, IsTrue};
-ghost use Rattle.std.specs.Prelude.{List, [], map, length, count_by, All};
+ghost use Rattle.std.specs.Prelude.{◌≡◌, ◌↔◌, ℕ, not, Option, Some, is_some};
+ghost use Rattle.std.specs.Prelude.{List, [], map, length, count_by, All, true};
 ghost use Rattle.std.specs.List.{filter_map};
 ghost use Rattle.std.specs.Option.{option_map};
 ghost use Rattle.dp_msg_draw.specs.Limits.{IsListedMode};
@@ -26,7 +26,7 @@ pub fn trees_stay_trees<X>()
     ensures after { (rows : List (Row X)) (op : Message) (x : Option X)
         → IsTree rows → is_some x ≡ makes_paint_row op → IsTree (rows_after rows op x) }
     ensures filled { (rows : List (Row X)) (id : ℕ) (x : X)
-        → IsTree rows → IsTrue (is_paint_row (layers_of rows) id)
+        → IsTree rows → is_paint_row (layers_of rows) id ≡ true
         → IsTree (with_content rows id x) }
 {}
 
@@ -70,5 +70,5 @@ pub fn contents_in_order<X>()
 
 /// The modes that a LayerAttr may set are the listed ones.
 pub fn listed_modes()
-    ensures { (mode : ℕ) → IsTrue (is_listed_mode mode) ↔ IsListedMode mode }
+    ensures { (mode : ℕ) → (is_listed_mode mode ≡ true) ↔ IsListedMode mode }
 {}

@@ -2,20 +2,8 @@
 //!
 //! The rule: docs/protocol.md, "The layers".
 
-ghost use Rattle.std.specs.Prelude.{
-  ◌≡◌,
-  [],
-  length,
-  count_by,
-  not,
-  IsTrue,
-  IfOk,
-  OnOk,
-  OnErr,
-  is_some,
-  option_copied,
-  true,
-};
+ghost use Rattle.std.specs.Prelude.{◌≡◌, [], length, count_by, not, true, IfOk, OnOk, OnErr};
+ghost use Rattle.std.specs.Prelude.{is_some, option_copied};
 ghost use Rattle.std.specs.Option.{option_copied_mut};
 ghost use Rattle.std.specs.Borrow.{sem};
 ghost use Rattle.dp_layers.specs.Layers.{is_paint_row};
@@ -109,7 +97,7 @@ impl<X: Drop> Tree<X> {
     /// Puts x in the place of what the paint row of the id holds, and gives that back. A paint row
     /// has the id.
     pub fn put_content(&mut self, id: u16, x: X) -> X
-        requires { IsTrue (is_paint_row (layers_of self.old) id) }
+        requires { is_paint_row (layers_of self.old) id ≡ true }
         ensures old { content_of self.old id ≡ Some result }
         ensures new { self.new ≡ with_content self.old id x }
     {

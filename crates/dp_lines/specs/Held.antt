@@ -1,6 +1,6 @@
 -- What is held of a text that comes in pieces.
 use Rattle.std.specs.Prelude.{◌≡◌, ℕ, ◌+◌, List, [], ◌∷◌, ◌++◌, length, Option, Some, None, Result}
-use Rattle.std.specs.Prelude.{Ok, Err, IsTrue}
+use Rattle.std.specs.Prelude.{Ok, Err, true}
 use Rattle.dp_lines.specs.declared.line.Line.{Line}
 use Rattle.dp_lines.specs.declared.lines.LineError.{LineError}
 use Rattle.dp_lines.specs.Lines.{ended, open_rest, lines, numbered, is_overlong}
@@ -28,14 +28,14 @@ given (Err error) = []
 
 -- the line isn't too long
 abbrev pub IsInLimit : Line → Type 0
-IsInLimit line = ¬ IsTrue (is_overlong line.bytes)
+IsInLimit line = ¬ (is_overlong line.bytes ≡ true)
 
 -- the line to be given next, ended or not, has this number and is too long
 pub record NextIsLong (held : Held) (n : ℕ) : Type 0 where
   pub line : Line
   pub after : List Line
   pub next : lines_from held ≡ line ∷ after
-  pub long : IsTrue (is_overlong line.bytes)
+  pub long : is_overlong line.bytes ≡ true
   pub number : line.number ≡ n
 
 -- of all the bytes that were fed the lines `done` were given, and this is left

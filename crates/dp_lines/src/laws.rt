@@ -2,7 +2,7 @@
 //!
 //! The rule: docs/protocol.md, "Lines".
 
-ghost use Rattle.std.specs.Prelude.{◌≡◌, ◌≢◌, ◌↔◌, ℕ, ◌+◌, ◌%◌, ◌<◌, ◌≤◌, IsTrue};
+ghost use Rattle.std.specs.Prelude.{◌≡◌, ◌≢◌, ◌↔◌, ℕ, ◌+◌, ◌%◌, ◌<◌, ◌≤◌, true};
 ghost use Rattle.std.specs.Prelude.{List, [], ◌∷◌, ◌++◌, length, Some, IsSome};
 ghost use Rattle.std.specs.List.{All, AllPass, flat_map, join_with_byte};
 ghost use Rattle.hex.specs.Hex.{is_hex_digit};
@@ -82,7 +82,7 @@ pub fn lines_seen()
     ensures long { (limit : ℕ) (all more : List ℕ) (done : List Line) (held : Held) (n : ℕ)
         → IsLeft all done held → length all ≤ limit → NextIsLong held n
         → (line : Line) × (after : List Line) × (seen limit (all ++ more) ≡ done ++ line ∷ after)
-        × IsTrue (is_overlong line.bytes) × (line.number ≡ n) }
+        × (is_overlong line.bytes ≡ true) × (line.number ≡ n) }
 
     // If the limit is reached, no ended line is left and the rest isn't too long, all is given.
     ensures cut { (limit : ℕ) (all more : List ℕ) (done : List Line) (held : Held)

@@ -1,7 +1,7 @@
 //! Lines of a text that comes in pieces.
 
 ghost use Rattle.std.specs.Prelude.{◌≡◌, ◌≢◌, ℕ, ◌+◌, ◌-◌, ◌^◌, ◌<◌, ◌≤◌, ◌↔◌, ◌++◌};
-ghost use Rattle.std.specs.Prelude.{◌==◌, [], false, length, take, position, IsTrue};
+ghost use Rattle.std.specs.Prelude.{◌==◌, [], false, length, take, position, true};
 ghost use Rattle.std.specs.Prelude.{IsSome, IfSome, IfNone, IfOk, OnOk, OnErr};
 ghost use Rattle.dp_lines.specs.Lines.{newline, Lacks, ended, open_rest, lines};
 ghost use Rattle.dp_lines.specs.Lines.{is_comment, is_skipped, is_overlong};
@@ -231,7 +231,7 @@ impl Lines {
         ensures taken { OnOk result (self.new ≡ after_first self.old (len + ending)) }
         ensures fits { OnOk result (IsInLimit (first_line self.old len)) }
         ensures long { (n : ℕ) → (result ≡ Err (LineError.Long n))
-            ↔ (IsTrue (is_overlong (take len self.old.bytes)) × (n ≡ self.old.count + 1)) }
+            ↔ ((is_overlong (take len self.old.bytes) ≡ true) × (n ≡ self.old.count + 1)) }
         ensures err { OnErr result (self.new ≡ self.old) }
     {
         let number = self.count + 1;

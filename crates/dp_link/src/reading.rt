@@ -1,6 +1,6 @@
 //! The messages that a link gives, one after the other.
 
-ghost use Rattle.std.specs.Prelude.{◌≡◌, ◌≢◌, ◌+◌, ◌≤◌, ℕ, List, [], length, IsTrue};
+ghost use Rattle.std.specs.Prelude.{◌≡◌, ◌≢◌, ◌+◌, ◌≤◌, ℕ, List, [], length, true};
 ghost use Rattle.std.specs.declared.option.Option.{Option};
 ghost use Rattle.dp_entries.specs.Anywhere.{StandsAnywhere};
 ghost use Rattle.dp_entries.specs.Onward.{ReadOn};
@@ -23,7 +23,7 @@ pub(crate) fn reader_of(alloc: Global, split: &mut Splitter) -> EntryReader<Anyw
     requires { split.old.at + length split.old.held ≤ stream_limit }
     ensures limit { result.limit ≡ stream_limit }
     ensures stream { result.stream ≡ split.old }
-    ensures going { ¬ IsTrue result.ended }
+    ensures going { ¬ (result.ended ≡ true) }
     ensures within { HoldsWithin result }
     ensures begun { (link : Option (List ℕ)) → ReadOn StandsAnywhere link link split.old [] result }
 {

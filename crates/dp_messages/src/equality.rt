@@ -1,6 +1,6 @@
 //! Whether two messages are equal.
 
-ghost use Rattle.std.specs.Prelude.{◌≡◌, ◌↔◌, IsTrue};
+ghost use Rattle.std.specs.Prelude.{◌≡◌, ◌↔◌, true};
 ghost use Rattle.dp_messages.specs.Equality.{same_message};
 
 use crate::Msg;
@@ -11,7 +11,7 @@ use dp_msg_meta::{same_control, same_meta};
 /// Whether two messages are equal, field by field. It takes no memory.
 pub fn same(a: &Msg, b: &Msg) -> bool
     ensures value { result ≡ same_message a.now b.now }
-    ensures equal { IsTrue result ↔ (a.now ≡ b.now) }
+    ensures equal { (result ≡ true) ↔ (a.now ≡ b.now) }
 {
     one_equality();
     match (a, b) {

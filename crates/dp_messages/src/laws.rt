@@ -1,6 +1,6 @@
 //! Laws of messages, each the contract of a function that does nothing.
 
-ghost use Rattle.std.specs.Prelude.{◌≡◌, ◌≢◌, ◌≤◌, ◌↔◌, ℕ, List, length, IsTrue};
+ghost use Rattle.std.specs.Prelude.{◌≡◌, ◌≢◌, ◌≤◌, ◌↔◌, ℕ, List, length, true};
 ghost use Rattle.dp_frame.specs.Frames.{FrameParts, IsFrame};
 ghost use Rattle.dp_messages.specs.declared.message.Msg.{Msg as Message};
 ghost use Rattle.dp_messages.specs.declared.message.Msg.TheVariants.{Opaque};
@@ -52,7 +52,7 @@ pub fn entries_are_read_again()
 
 /// The test of two messages says exactly whether they are equal.
 pub fn one_equality()
-    ensures { (m n : Message) → IsTrue (same_message m n) ↔ (m ≡ n) }
+    ensures { (m n : Message) → (same_message m n ≡ true) ↔ (m ≡ n) }
 {
     control_equality();
     meta_equality();

@@ -1,6 +1,6 @@
 //! Dabs and pixels, the items of lists.
 
-ghost use Rattle.std.specs.Prelude.{◌↔◌, IsTrue};
+ghost use Rattle.std.specs.Prelude.{◌≡◌, ◌↔◌, true};
 ghost use Rattle.dp_msg_draw.specs.FieldLaws.{dab_field, pixel_field};
 ghost use Rattle.dp_msg_draw.specs.Payloads.{dab_bytes, IsDab, pixel_bytes, IsPixel};
 
@@ -43,7 +43,7 @@ impl Field for Dab {
 }
 
 fn is_pixel(p: TilePixel) -> bool
-    ensures { IsTrue result ↔ IsPixel p }
+    ensures { (result ≡ true) ↔ IsPixel p }
 {
     p.r <= p.a && p.g <= p.a && p.b <= p.a && p.a <= 32768
 }

@@ -2,7 +2,7 @@
 //!
 //! The rule: docs/protocol.md, "Drawing messages".
 
-ghost use Rattle.std.specs.Prelude.{◌≡◌, ◌↔◌, IsTrue};
+ghost use Rattle.std.specs.Prelude.{◌≡◌, ◌↔◌, true};
 ghost use Rattle.dp_msg_draw.specs.Limits.{IsDrawKind};
 ghost use Rattle.dp_msg_draw.specs.Payloads.{draw_kind};
 
@@ -37,7 +37,7 @@ pub(crate) const MOVE_RECT: u8 = 152;
 
 /// Whether a kind is one of the drawing messages.
 pub fn is_listed(kind: u8) -> bool
-    ensures { IsTrue result ↔ IsDrawKind kind }
+    ensures { (result ≡ true) ↔ IsDrawKind kind }
 {
     matches!(
         kind,

@@ -2,7 +2,7 @@
 //! most 65,535 bytes.
 
 ghost use Rattle.std.specs.Prelude.{◌≡◌, ◌≤◌, ◌↔◌, [], length, replicate};
-ghost use Rattle.std.specs.Prelude.{IfOk, IfSome, IsSome, IsTrue};
+ghost use Rattle.std.specs.Prelude.{IfOk, IfSome, IsSome, true};
 ghost use Rattle.std.specs.Bool.{◌==◌};
 ghost use Rattle.std.specs.Cmp.{partial_equiv_from_equiv};
 ghost use Rattle.std.specs.Cmp.Lexicographic.{pointwise, nat_list_eq_equiv, lists_per};
@@ -32,7 +32,7 @@ impl Model for Title {
 
 /// Whether these bytes are a title.
 pub(crate) fn is_title(bytes: &[u8]) -> bool
-    ensures { IsTrue result ↔ IsTitle bytes.now }
+    ensures { (result ≡ true) ↔ IsTitle bytes.now }
 {
     bytes.len() <= 255 && str::from_utf8(bytes).is_ok()
 }

@@ -1,6 +1,6 @@
 //! Blend modes, as numbers.
 
-ghost use Rattle.std.specs.Prelude.{◌↔◌, IsTrue};
+ghost use Rattle.std.specs.Prelude.{◌≡◌, ◌↔◌, true};
 ghost use Rattle.dp_fields.specs.Fields.{one_byte};
 ghost use Rattle.dp_msg_draw.specs.FieldLaws.{mode_field};
 ghost use Rattle.dp_msg_draw.specs.Limits.{IsListedMode};
@@ -10,7 +10,7 @@ use std::alloc::AllocError;
 
 /// Whether a number is that of a blend mode.
 pub(crate) fn is_listed_mode(mode: u8) -> bool
-    ensures { IsTrue result ↔ IsListedMode mode }
+    ensures { (result ≡ true) ↔ IsListedMode mode }
 {
     matches!(mode, 0 | 1 | 2 | 9 | 10 | 255)
 }

@@ -1,10 +1,10 @@
 -- What names, texts and ids meet.
-use Rattle.std.specs.Prelude.{ℕ, ◌+◌, ◌≤◌, List, [], ◌∷◌, length}
+use Rattle.std.specs.Prelude.{ℕ, ◌+◌, ◌≤◌, List, [], ◌∷◌, length, ⊤}
 use Rattle.std.specs.Str.{IsUtf8}
 
 -- ids rise strictly within low to 254
 abbrev pub RiseFrom : ℕ → List ℕ → Type 0
-RiseFrom low [] = Unit {0}
+RiseFrom low [] = ⊤
 RiseFrom low (id ∷ ids) = (low ≤ id) × (id ≤ 254) × RiseFrom (id + 1) ids
 
 -- a name has 1 to 32 bytes

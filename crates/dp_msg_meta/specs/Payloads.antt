@@ -1,5 +1,5 @@
 -- Control and meta messages: the kind and the payload of each, and which of them have a spelling.
-use Rattle.std.specs.Prelude.{◌≡◌, ℕ, ◌<◌, ◌≤◌, ◌^◌, ◌⊎◌, List, [], ◌∷◌, ◌++◌, FitsSigned}
+use Rattle.std.specs.Prelude.{◌≡◌, ℕ, ◌<◌, ◌≤◌, ◌^◌, ◌⊎◌, List, [], ◌∷◌, ◌++◌, FitsSigned, ⊤}
 use Rattle.std.specs.Int.{w32}
 use Rattle.std.specs.Str.{IsUtf8}
 use Rattle.dp_fields.specs.Fields.{one_byte, two_bytes, four_bytes, four_signed, flag_byte}
@@ -47,12 +47,12 @@ control_payload (ResetFrom at) = four_bytes at
 abbrev pub ControlHasSpelling : Control → Type 0
 ControlHasSpelling (Hello name) = IsName name
 ControlHasSpelling (Disconnect reason) = reason < 2 ^ 8
-ControlHasSpelling (Ping pong) = Unit {0}
+ControlHasSpelling (Ping pong) = ⊤
 ControlHasSpelling (Ack epoch) = epoch < 2 ^ 32
 ControlHasSpelling (Welcome version user epoch at) =
     (version < 2 ^ 16) × (user < 2 ^ 8) × (epoch < 2 ^ 32) × (at < 2 ^ 32)
-ControlHasSpelling ResetBegin = Unit {0}
-ControlHasSpelling ResetEnd = Unit {0}
+ControlHasSpelling ResetBegin = ⊤
+ControlHasSpelling ResetEnd = ⊤
 ControlHasSpelling (ResetFrom at) = at < 2 ^ 32
 
 -- these bytes, as the payload of a message of kind k, spell the control message
@@ -115,7 +115,7 @@ AreTiers t =
 -- 255.)
 abbrev pub MetaHasSpelling : Meta → Type 0
 MetaHasSpelling (Join registered name) = IsUtf8 name × IsName name
-MetaHasSpelling Leave = Unit {0}
+MetaHasSpelling Leave = ⊤
 MetaHasSpelling (Owners ids) = RiseFrom 1 ids
 MetaHasSpelling (Chat text) = IsText text
 MetaHasSpelling (Trusted ids) = RiseFrom 1 ids

@@ -1,6 +1,6 @@
 //! Whether two messages are equal.
 
-ghost use Rattle.std.specs.Prelude.{◌≡◌, ◌↔◌, IsTrue};
+ghost use Rattle.std.specs.Prelude.{◌≡◌, ◌↔◌, true};
 ghost use Rattle.dp_msg_meta.specs.Equality.{same_control, same_meta};
 
 use crate::message::{Control, Meta};
@@ -9,7 +9,7 @@ use crate::message::{Control, Meta};
 #[tactic(auto, using(crate::proofs::Comparing::controls_compare))]
 pub fn same_control(control: &Control, other: &Control) -> bool
     ensures value { result ≡ same_control control.now other.now }
-    ensures equal { IsTrue result ↔ (control.now ≡ other.now) }
+    ensures equal { (result ≡ true) ↔ (control.now ≡ other.now) }
 {
     control == other
 }
@@ -18,7 +18,7 @@ pub fn same_control(control: &Control, other: &Control) -> bool
 #[tactic(auto, using(crate::proofs::Comparing::metas_compare))]
 pub fn same_meta(meta: &Meta, other: &Meta) -> bool
     ensures value { result ≡ same_meta meta.now other.now }
-    ensures equal { IsTrue result ↔ (meta.now ≡ other.now) }
+    ensures equal { (result ≡ true) ↔ (meta.now ≡ other.now) }
 {
     meta == other
 }

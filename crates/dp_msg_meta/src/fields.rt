@@ -1,6 +1,6 @@
 //! Tiers and depths, as fields of a payload.
 
-ghost use Rattle.std.specs.Prelude.{◌≤◌, ◌<◌, ◌^◌, ◌↔◌, IsTrue};
+ghost use Rattle.std.specs.Prelude.{◌≡◌, ◌≤◌, ◌<◌, ◌^◌, ◌↔◌, true};
 ghost use Rattle.dp_fields.specs.Fields.{one_byte};
 ghost use Rattle.dp_msg_meta.specs.FieldLaws.{tier_field, depth_field, tiers_field};
 ghost use Rattle.dp_msg_meta.specs.Payloads.{tier_bytes, AreTiers};
@@ -98,7 +98,7 @@ impl Field for Tiers {
 }
 
 fn are_tiers(t: &Tiers) -> bool
-    ensures { IsTrue result ↔ AreTiers t.now }
+    ensures { (result ≡ true) ↔ AreTiers t.now }
 {
     t.image <= 3
         && t.move_ <= 3

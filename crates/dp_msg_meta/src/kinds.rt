@@ -2,7 +2,7 @@
 //!
 //! The rule: docs/protocol.md, "Control and meta messages".
 
-ghost use Rattle.std.specs.Prelude.{◌≡◌, ◌↔◌, IfOk, OnErr, IsTrue};
+ghost use Rattle.std.specs.Prelude.{◌≡◌, ◌↔◌, IfOk, OnErr, true};
 ghost use Rattle.dp_msg_meta.specs.Payloads.{control_kind, meta_kind, IsControlKind, IsMetaKind};
 ghost use Rattle.dp_msg_meta.specs.Payloads.{TakesMemory};
 
@@ -92,14 +92,14 @@ pub fn kind_of_meta(m: &Meta) -> u8
 
 /// Whether control messages are of this kind.
 pub fn is_control_kind(kind: u8) -> bool
-    ensures { IsTrue result ↔ IsControlKind kind }
+    ensures { (result ≡ true) ↔ IsControlKind kind }
 {
     matches!(kind, HELLO..=RESET_BEGIN | RESET_END..=RESET_FROM)
 }
 
 /// Whether meta messages are of this kind.
 pub fn is_meta_kind(kind: u8) -> bool
-    ensures { IsTrue result ↔ IsMetaKind kind }
+    ensures { (result ≡ true) ↔ IsMetaKind kind }
 {
     matches!(kind, JOIN..=RESET_MARK | LASER..=UNDO_DEPTH)
 }

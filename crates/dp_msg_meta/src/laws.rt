@@ -2,7 +2,7 @@
 //!
 //! The rule: docs/protocol.md, "Control and meta messages".
 
-ghost use Rattle.std.specs.Prelude.{◌≡◌, ◌≤◌, ◌↔◌, ℕ, List, length, IsTrue};
+ghost use Rattle.std.specs.Prelude.{◌≡◌, ◌≤◌, ◌↔◌, ℕ, List, length, true};
 ghost use Rattle.dp_msg_meta.specs.declared.message.Control.{Control};
 ghost use Rattle.dp_msg_meta.specs.declared.message.Meta.{Meta};
 ghost use Rattle.dp_msg_meta.specs.Payloads.{IsControlKind, IsMetaKind, SpellsControl, SpellsMeta};
@@ -38,11 +38,11 @@ pub fn one_meta()
 /// The test of two control messages says exactly whether they are equal.
 #[tactic(auto, using(crate::proofs::Comparing::controls_compare))]
 pub fn control_equality()
-    ensures { (m n : Control) → IsTrue (same_control m n) ↔ (m ≡ n) }
+    ensures { (m n : Control) → (same_control m n ≡ true) ↔ (m ≡ n) }
 {}
 
 /// The test of two meta messages says exactly whether they are equal.
 #[tactic(auto, using(crate::proofs::Comparing::metas_compare))]
 pub fn meta_equality()
-    ensures { (m n : Meta) → IsTrue (same_meta m n) ↔ (m ≡ n) }
+    ensures { (m n : Meta) → (same_meta m n ≡ true) ↔ (m ≡ n) }
 {}

@@ -1,6 +1,6 @@
 //! Names, texts and ids, which run to a payload's end.
 
-ghost use Rattle.std.specs.Prelude.{◌≡◌, ◌≤◌, ◌↔◌, IsTrue, ◌++◌, OnOk};
+ghost use Rattle.std.specs.Prelude.{◌≡◌, ◌≤◌, ◌↔◌, ◌++◌, OnOk, true};
 ghost use Rattle.std.specs.Str.{IsUtf8};
 ghost use Rattle.dp_fields.specs.Reading.{Answers, Spells};
 ghost use Rattle.dp_msg_meta.specs.Fields.{RiseFrom, IsName, IsText};
@@ -21,7 +21,7 @@ const LAST_USER: u8 = 254;
 
 /// Tests that ids rise strictly within `low` to 254.
 fn do_rise(low: u8, ids: &[u8]) -> bool
-    ensures { IsTrue result ↔ RiseFrom low ids.now }
+    ensures { (result ≡ true) ↔ RiseFrom low ids.now }
 {
     let mut least = low;
     for &id in ids {
@@ -56,7 +56,7 @@ impl Tail for Ids {
 }
 
 fn has_length_of_name(bytes: &[u8]) -> bool
-    ensures { IsTrue result ↔ IsName bytes.now }
+    ensures { (result ≡ true) ↔ IsName bytes.now }
 {
     !bytes.is_empty() && bytes.len() <= NAME_LIMIT
 }

@@ -1,7 +1,7 @@
 -- Operations that wait for the tiles of a grid.
 use Rattle.std.specs.Prelude.{◌≡◌, ℕ, ◌==◌, ◌+◌, ◌-◌, ◌*◌, ◌/◌, ◌%◌, ◌<◌, ◌≤◌, pos, ℤ}
 use Rattle.std.specs.Prelude.{nat_le, if◌then◌else◌, List, [], ◌++◌, length, slice_index_or}
-use Rattle.std.specs.Prelude.{slice_get, Some, ◌⊎◌}
+use Rattle.std.specs.Prelude.{slice_get, Some, ◌⊎◌, ⊤}
 use Rattle.dp_blend.specs.Color.{Channels}
 use Rattle.dp_blend.specs.Canvas.{canvas_of}
 use Rattle.dp_msg_draw.specs.declared.draw.Draw.{Draw}
@@ -70,7 +70,7 @@ pub record IsInside (area : CellArea) (col row : ℕ) : Type 0 where
 
 -- on any tile, whatever is numbered there
 abbrev pub anywhere : OnTile → Type 0
-anywhere t = Unit {0}
+anywhere t = ⊤
 
 -- on a tile of a canvas of these sides if the command has this number
 pub record IsNumbered (wide high number : ℕ) (command : Draw) (t : OnTile) : Type 0 where

@@ -1,6 +1,6 @@
 -- Operations on tiles, which wait until these are painted or read.
 use Rattle.std.specs.Prelude.{◌≡◌, ◌==◌, ℕ, ◌+◌, ◌-◌, ◌*◌, ◌/◌, ◌%◌, ◌<◌, ◌≤◌, Bool}
-use Rattle.std.specs.Prelude.{◌&&◌, nat_le, nat_lt, if◌then◌else◌, ℤ, pos}
+use Rattle.std.specs.Prelude.{◌&&◌, nat_le, nat_lt, if◌then◌else◌, ℤ, pos, ⊤}
 use Rattle.std.specs.Prelude.{◌-ℤ◌, ◌≤ℤ◌, ◌<ℤ◌, List, length, fold, slice_get}
 use Rattle.std.specs.Int.{int_max, int_min}
 use Rattle.std.specs.Option.{option_map_or}
@@ -95,7 +95,7 @@ abbrev pub IsPackable : TileOp → Type 0
 IsPackable (Fill f) = (f.left ≤ 64) × (f.right ≤ 64) × (f.top ≤ 64) × (f.bottom ≤ 64)
 IsPackable (Dab d) = ((pos 0 -ℤ pos 256) ≤ℤ d.x) × (d.x <ℤ pos 256)
     × ((pos 0 -ℤ pos 256) ≤ℤ d.y) × (d.y <ℤ pos 256) × (d.color / 16777216 ≡ 255)
-IsPackable (Command number) = Unit {0}
+IsPackable (Command number) = ⊤
 
 -- the number of a mode
 abbrev pub code_of : Mode → ℕ
@@ -162,9 +162,9 @@ tile_place at tile = int_max (pos 0 -ℤ pos 128) (int_min (at -ℤ pos (tile * 
 
 -- a fill, or a message of dabs
 abbrev pub MayWait : Draw → Type 0
-MayWait (FillRect layer mode x y w h color) = Unit {0}
-MayWait (DabsRound layer x y r g b mode dabs) = Unit {0}
-MayWait (DabsSquare layer x y r g b mode dabs) = Unit {0}
+MayWait (FillRect layer mode x y w h color) = ⊤
+MayWait (DabsRound layer x y r g b mode dabs) = ⊤
+MayWait (DabsSquare layer x y r g b mode dabs) = ⊤
 MayWait _ = ⊥
 
 -- a tile has 4096 pixels after operations

@@ -1,6 +1,6 @@
 -- Commands on grids of tiles.
 use Rattle.std.specs.Prelude.{◌≡◌, ℕ, ◌+◌, ◌*◌, ◌<◌, ◌≤◌, pos, ◌≤ℤ◌, true, List, length}
-use Rattle.std.specs.Prelude.{Option, Some, None, unsigned_abs, ◌^◌, fold}
+use Rattle.std.specs.Prelude.{Option, Some, None, unsigned_abs, ◌^◌, fold, ⊤}
 use Rattle.dp_blend.specs.Color.{Channels}
 use Rattle.dp_blend.specs.Canvas.{canvas_of, pixel_at}
 use Rattle.dp_blend.proofs.Canvas.{length-canvas_of}
@@ -17,11 +17,11 @@ use Rattle.dp_tile.specs.Tiles.{TileGrid}
 
 -- a command that changes each pixel of a layer from the old one at its place
 abbrev pub IsPainting : Draw → Type 0
-IsPainting (FillRect layer mode x y w h color) = Unit {0}
-IsPainting (PutImage layer mode x y w h colors) = Unit {0}
-IsPainting (PutTile layer col row repeat content) = Unit {0}
-IsPainting (DabsRound layer x y r g b mode dabs) = Unit {0}
-IsPainting (DabsSquare layer x y r g b mode dabs) = Unit {0}
+IsPainting (FillRect layer mode x y w h color) = ⊤
+IsPainting (PutImage layer mode x y w h colors) = ⊤
+IsPainting (PutTile layer col row repeat content) = ⊤
+IsPainting (DabsRound layer x y r g b mode dabs) = ⊤
+IsPainting (DabsSquare layer x y r g b mode dabs) = ⊤
 IsPainting _ = ⊥
 
 -- the grid has the tiles of a canvas of this width and height

@@ -1,6 +1,6 @@
 -- Commands that read a grid at other places than those that they change.
 use Rattle.std.specs.Prelude.{◌≡◌, ℕ, ◌+◌, ◌-◌, ◌*◌, ◌≤◌, ℤ, pos, ◌+ℤ◌, ◌-ℤ◌, List, length}
-use Rattle.std.specs.Prelude.{map, if◌then◌else◌}
+use Rattle.std.specs.Prelude.{map, if◌then◌else◌, ⊤}
 use Rattle.dp_blend.specs.Color.{Channels, clear}
 use Rattle.dp_blend.specs.Blending.{blend}
 use Rattle.dp_blend.specs.declared.modes.Mode.TheVariants.{Normal}
@@ -20,12 +20,12 @@ use Rattle.dp_paint.specs.Painting.{IsGridOf, IsPainting}
 
 -- MoveRect
 abbrev pub IsMove : Draw → Type 0
-IsMove (MoveRect layer sx sy w h tx ty) = Unit {0}
+IsMove (MoveRect layer sx sy w h tx ty) = ⊤
 IsMove _ = ⊥
 
 -- a command that changes pixels of a layer
 abbrev pub ChangesPixels : Draw → Type 0
-ChangesPixels (MoveRect layer sx sy w h tx ty) = Unit {0}
+ChangesPixels (MoveRect layer sx sy w h tx ty) = ⊤
 ChangesPixels command = IsPainting command
 
 -- the pixel at a place of a canvas whose tiles are those of a grid, clear past the canvas

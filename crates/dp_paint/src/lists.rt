@@ -1,7 +1,7 @@
 //! Operations that wait until the tiles on which they are done are painted or read.
 
 ghost use Rattle.std.specs.Prelude.{◌≡◌, ◌+◌, ◌-◌, ◌*◌, ◌<◌, ◌≤◌, [], ◌∷◌, ◌++◌, length};
-ghost use Rattle.std.specs.Prelude.{IfOk, IsTrue, OnOk};
+ghost use Rattle.std.specs.Prelude.{IfOk, OnOk, true};
 ghost use Rattle.dp_paint.specs.Ops.{IsPackable};
 ghost use Rattle.dp_paint.specs.Lists.{AddsMore, HaveSame, HaveSameLists, IsChangedOn};
 ghost use Rattle.dp_paint.specs.Lists.{AllCount, IsFinished, StayOutside, finished, listed_at};
@@ -139,7 +139,7 @@ impl TileLists {
 
     /// Whether there is no list yet, so that nothing waits.
     pub(crate) fn is_blank(&self) -> bool
-        ensures { IsTrue result → self.now.lists ≡ [] }
+        ensures { result ≡ true → self.now.lists ≡ [] }
     {
         self.lists.is_empty()
     }

@@ -2,7 +2,7 @@
 -- stands past the canvas stays.
 use Rattle.std.specs.Prelude.{ℕ, ◌+◌, ◌*◌, ℤ, pos, ◌-ℤ◌, unsigned_abs}
 use Rattle.std.specs.Prelude.{Bool, true, false, ◌&&◌, nat_lt, if◌then◌else◌}
-use Rattle.std.specs.Prelude.{List, Option, None, slice_get, fold}
+use Rattle.std.specs.Prelude.{List, Option, None, slice_get, fold, ⊤}
 use Rattle.std.specs.List.{list_any}
 use Rattle.std.specs.Option.{option_map_or}
 use Rattle.dp_blend.specs.Color.{Channels, clear, from8, fade, of_argb, premultiplied}
@@ -85,8 +85,8 @@ is_stamp _ = false
 
 -- a command of dabs
 abbrev pub IsDabs : Draw → Type 0
-IsDabs (DabsRound layer x y r g b mode dabs) = Unit {0}
-IsDabs (DabsSquare layer x y r g b mode dabs) = Unit {0}
+IsDabs (DabsRound layer x y r g b mode dabs) = ⊤
+IsDabs (DabsSquare layer x y r g b mode dabs) = ⊤
 IsDabs _ = ⊥
 
 -- a place is covered by the fill, by the image or by one of the dabs

@@ -1,7 +1,7 @@
 //! Round dabs.
 
 ghost use Rattle.std.specs.Prelude.{◌≡◌, ◌≤◌, ◌<◌, ◌+◌, ◌*◌, ◌^◌, ◌↔◌, ℕ, pos, slice_index};
-ghost use Rattle.std.specs.Prelude.{if◌then◌else◌, IsTrue};
+ghost use Rattle.std.specs.Prelude.{if◌then◌else◌, true};
 ghost use Rattle.dp_blend.specs.Blending.{blend};
 ghost use Rattle.dp_pixels.specs.declared.dabs.Shape.{Shape as DabShape};
 ghost use Rattle.dp_pixels.specs.Near.{IsPlaceNear};
@@ -73,7 +73,7 @@ fn disc_row(size: u8, j: usize) -> Span
     requires { j < size }
     ensures within { result.end ≤ size }
     ensures cells { (i : ℕ) → i < size →
-        IsTrue (is_in_disc size (pos i) (pos j)) ↔ IsInSpan result i }
+        (is_in_disc size (pos i) (pos j) ≡ true) ↔ IsInSpan result i }
 {
     let down = (2 * j as u16 + 1).abs_diff(size as u16);
     let across = root(size as u16 * size as u16 - down * down);

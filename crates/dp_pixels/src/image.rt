@@ -1,6 +1,6 @@
 //! Images of colours.
 
-ghost use Rattle.std.specs.Prelude.{◌≡◌, ℕ, ◌<◌, pos, length, None, IsTrue};
+ghost use Rattle.std.specs.Prelude.{◌≡◌, ℕ, ◌<◌, pos, length, None, true};
 ghost use Rattle.std.specs.Prelude.{slice_get, slice_index, slice_index_or};
 ghost use Rattle.std.specs.Option.{option_map_or};
 ghost use Rattle.dp_blend.specs.Color.{Channels, of_argb};
@@ -46,8 +46,7 @@ impl Image<'_> {
 
     /// The index of the colour of a place.
     fn index(self, place: Place) -> usize
-        requires { IsTrue
-            (is_in (rect_at (pos self.x) (pos self.y) self.w self.h) place.x place.y) }
+        requires { is_in (rect_at (pos self.x) (pos self.y) self.w self.h) place.x place.y ≡ true }
         ensures { result
             ≡ image_index (pos self.entry.x) (pos self.entry.y) self.entry.w place.x place.y }
     {

@@ -2,8 +2,8 @@
 //!
 //! The rule: docs/protocol.md, "Pixel commands".
 
-ghost use Rattle.std.specs.Prelude.{◌≡◌, ◌≤◌, ◌↔◌, ℕ, ℤ, List, false, IsTrue, Some, None};
-ghost use Rattle.std.specs.Prelude.{fold};
+ghost use Rattle.std.specs.Prelude.{◌≡◌, ◌≤◌, ◌↔◌, ℕ, ℤ, List, false, Some, None};
+ghost use Rattle.std.specs.Prelude.{fold, true};
 ghost use Rattle.dp_blend.specs.Color.{Channels, IsPixel};
 ghost use Rattle.dp_blend.specs.declared.modes.Mode.{Mode};
 ghost use Rattle.dp_msg_draw.specs.declared.draw.Draw.{Draw};
@@ -34,21 +34,21 @@ pub fn pixels_stay_outside_the_foot()
 pub fn the_foot_tells_all()
     ensures { (width height : ℕ) (op : Draw) (old other : ℤ → ℤ → Channels) (x y : ℤ)
         → width ≤ 4096 → height ≤ 4096 → old x y ≡ other x y
-        → ((v w : ℤ) → IsTrue (is_in (canvas_rect width height) v w)
-        → IsTrue (is_in_foot (foot op) v w) → old v w ≡ other v w)
+        → ((v w : ℤ) → is_in (canvas_rect width height) v w ≡ true
+        → is_in_foot (foot op) v w ≡ true → old v w ≡ other v w)
         → drawn width height op old x y ≡ drawn width height op other x y }
 {}
 
 /// Two rectangles share a place exactly if some place is in both.
 pub fn shared_places()
-    ensures { (a b : Rect) → IsTrue (share_place a b)
-        ↔ ((x : ℤ) × (y : ℤ) × IsTrue (is_in a x y) × IsTrue (is_in b x y)) }
+    ensures { (a b : Rect) → (share_place a b ≡ true)
+        ↔ ((x : ℤ) × (y : ℤ) × (is_in a x y ≡ true) × (is_in b x y ≡ true)) }
 {}
 
 /// Feet of one layer that don't meet have no place in common.
 pub fn feet_apart()
     ensures { (a b : Footprint) (x y : ℤ) → foot_layer a ≡ foot_layer b → feet_meet a b ≡ false
-        → IsTrue (is_in_foot a x y) → is_in_foot b x y ≡ false }
+        → is_in_foot a x y ≡ true → is_in_foot b x y ≡ false }
 {}
 
 /// Two commands on a layer whose feet don't meet give the same pixels in either order.
@@ -67,7 +67,7 @@ pub fn apart_commands_commute()
 pub fn pixels_stay_pixels()
     ensures { (width height : ℕ) (op : Draw) (old : ℤ → ℤ → Channels) (x y : ℤ) → FitsColors op
         → IsPixel (old x y)
-        → ((v w : ℤ) → IsTrue (is_in (canvas_rect width height) v w) → IsPixel (old v w))
+        → ((v w : ℤ) → is_in (canvas_rect width height) v w ≡ true → IsPixel (old v w))
         → IsPixel (drawn width height op old x y) }
 {
     blend_gives_pixels();

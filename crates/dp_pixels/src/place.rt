@@ -1,6 +1,6 @@
 //! One place, and what a command makes of the pixel there.
 
-ghost use Rattle.std.specs.Prelude.{◌≡◌, pos, IsTrue, option_map};
+ghost use Rattle.std.specs.Prelude.{◌≡◌, pos, option_map, true};
 ghost use Rattle.std.specs.List.{list_any};
 ghost use Rattle.dp_blend.specs.Blending.{mode_numbered};
 ghost use Rattle.dp_blend.specs.Color.{premultiplied};
@@ -120,7 +120,7 @@ pub(crate) fn dabs_of(command: &Draw) -> ColoredDabs<'_>
 
 /// Whether a fill or an image covers a place, or one of the dabs of a message. It takes no memory.
 pub fn covers(command: &Draw, x: i64, y: i64) -> bool
-    requires { IsTrue (is_stamp command.now) }
+    requires { is_stamp command.now ≡ true }
     ensures { result ≡ covers command.now x y }
 {
     let place = Place { x, y };
@@ -169,7 +169,7 @@ fn stroked(mode: u8, source: Pixel, run: DabRun, place: Place, old: Pixel) -> Pi
 
 /// The pixel at a place after a fill, an image or dabs, of the old pixel there. It takes no memory.
 pub fn pixel_after(command: &Draw, x: i64, y: i64, old: Pixel) -> Pixel
-    requires { IsTrue (is_stamp command.now) }
+    requires { is_stamp command.now ≡ true }
     ensures { result ≡ pixel_after command.now x y old }
 {
     let place = Place { x, y };

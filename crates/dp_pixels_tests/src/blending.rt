@@ -1,6 +1,6 @@
 //! Worked pixels, each byte and mode there and back, and rows beside the plain loops.
 
-ghost use Rattle.std.specs.Prelude.{◌<◌, ◌≤◌, ◌↔◌, All, IsTrue};
+ghost use Rattle.std.specs.Prelude.{◌≡◌, ◌<◌, ◌≤◌, ◌↔◌, All, true};
 
 use crate::colors::pixel;
 use dp_blend::{
@@ -168,7 +168,7 @@ fn some_row(rt: &impl Abort, times: usize) -> [Pixel; 70]
 }
 
 fn is_mask(mask: &[u16]) -> bool
-    ensures { IsTrue result ↔ All (λ m. m ≤ 32768) mask.now }
+    ensures { (result ≡ true) ↔ All (λ m. m ≤ 32768) mask.now }
 {
     mask.iter().all(|m| *m <= 32768)
 }

@@ -1,6 +1,6 @@
 //! Worked pixels of the pixel commands, on plain lists of pixels.
 
-ghost use Rattle.std.specs.Prelude.{◌<◌, IsTrue};
+ghost use Rattle.std.specs.Prelude.{◌≡◌, ◌<◌, true};
 ghost use Rattle.dp_pixels.specs.Commands.{is_stamp};
 
 use crate::colors::{BLUE, CLEAR, RED, pixel};
@@ -11,7 +11,7 @@ use std::alloc::Global;
 use std::process::Abort;
 
 fn fill(mode: u8, at: (u32, u32, u32, u32), color: u32) -> Draw
-    ensures { IsTrue (is_stamp result) }
+    ensures { is_stamp result ≡ true }
 {
     let (x, y, w, h) = at;
     Draw::FillRect {
@@ -27,7 +27,7 @@ fn fill(mode: u8, at: (u32, u32, u32, u32), color: u32) -> Draw
 
 /// Red dabs from a place on, each its differences, size and opacity.
 fn red_dabs(rt: &impl Abort, alloc: Global, round: bool, at: (i32, i32), list: &[Dab]) -> Draw
-    ensures { IsTrue (is_stamp result) }
+    ensures { is_stamp result ≡ true }
 {
     let (x, y) = at;
     let list = Vec::from_slice(alloc, list).expect(rt, "memory");

@@ -2,7 +2,7 @@
 -- it is.
 use Rattle.std.specs.Prelude.{ℕ, ℤ, pos, ◌+ℤ◌, Bool, true, ◌&&◌, ◌==◌}
 use Rattle.std.specs.Prelude.{if◌then◌else◌, Option, None, Some, option_map}
-use Rattle.std.specs.Prelude.{List, map}
+use Rattle.std.specs.Prelude.{List, map, ⊤}
 use Rattle.std.specs.List.{fold}
 use Rattle.std.specs.Option.{option_map_or}
 use Rattle.dp_blend.specs.Color.{Channels, clear}
@@ -64,10 +64,10 @@ painted board op id = record board {
 
 -- the commands on layers that make no row
 abbrev pub IsArranging : Draw → Type 0
-IsArranging (draws.LayerAttr id opacity mode hidden) = Unit {0}
-IsArranging (draws.LayerTitle id title) = Unit {0}
-IsArranging (draws.LayerMove id parent above) = Unit {0}
-IsArranging (draws.LayerDelete id) = Unit {0}
+IsArranging (draws.LayerAttr id opacity mode hidden) = ⊤
+IsArranging (draws.LayerTitle id title) = ⊤
+IsArranging (draws.LayerMove id parent above) = ⊤
+IsArranging (draws.LayerDelete id) = ⊤
 IsArranging _ = ⊥
 
 -- the board after the command

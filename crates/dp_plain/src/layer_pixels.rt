@@ -1,7 +1,7 @@
 //! What a paint layer holds.
 
 ghost use Rattle.std.specs.Prelude.{◌≡◌, ℕ, ◌+◌, ◌*◌, ◌<◌, ◌≤◌, List, [], length, is_some};
-ghost use Rattle.std.specs.Prelude.{All, IsTrue, IfOk, IfSome, OnOk, OnErr};
+ghost use Rattle.std.specs.Prelude.{All, IfOk, IfSome, OnOk, OnErr, true};
 ghost use Rattle.dp_blend.specs.Color.{Channels, IsPixel, clear};
 ghost use Rattle.dp_blend.specs.Canvas.{canvas_of, part_of_row, pixel_at};
 ghost use Rattle.dp_msg_draw.specs.declared.draw.Draw.{Draw as Message};
@@ -62,7 +62,7 @@ pub trait LayerPixels: Share + Drop {
     ) -> Result<(), AllocError>
         requires wide { width ≤ 4096 }
         requires high { height ≤ 4096 }
-        requires paints { IsTrue (is_some (painted_layer command.now)) }
+        requires paints { is_some (painted_layer command.now) ≡ true }
         requires fits { fits width height self.old }
         ensures fits { OnOk result (fits width height self.new) }
         ensures pixels { OnOk result (pixels width height self.new

@@ -1,7 +1,7 @@
 //! Trees of contents: changed by a command, or made anew on a canvas of other sides.
 
 ghost use Rattle.std.specs.Prelude.{◌≡◌, ◌+◌, ◌*◌, ◌≤◌, None, Some, if◌then◌else◌, true, false};
-ghost use Rattle.std.specs.Prelude.{IsTrue, is_some, map, option_map, All, IfOk, OnOk, OnErr};
+ghost use Rattle.std.specs.Prelude.{is_some, map, option_map, All, IfOk, OnOk, OnErr};
 ghost use Rattle.std.specs.Option.{ForSome};
 ghost use Rattle.dp_blend.specs.Color.{clear};
 ghost use Rattle.dp_blend.specs.Canvas.{canvas_of};
@@ -74,7 +74,7 @@ pub(crate) fn paint_content<C: LayerPixels, T: Ledger>(
     command: &Draw,
     tiles: &mut Steps<T>,
 ) -> Result<(), AllocError>
-    requires paints { IsTrue (is_some (painted_layer command.now)) }
+    requires paints { is_some (painted_layer command.now) ≡ true }
     requires held { IsHeld C.fits width height tree.old }
     ensures held { IsHeld C.fits width height tree.new }
     ensures ok { OnOk result (map_contents (C.pixels width height) tree.new

@@ -1,6 +1,6 @@
 //! What is read of a board.
 
-ghost use Rattle.std.specs.Prelude.{◌≡◌, ◌+◌, ◌*◌, ◌<◌, ◌≤◌, [], length, IfSome, IsTrue};
+ghost use Rattle.std.specs.Prelude.{◌≡◌, ◌+◌, ◌*◌, ◌<◌, ◌≤◌, [], length, IfSome, true};
 ghost use Rattle.dp_blend.specs.Canvas.{part_of_row};
 ghost use Rattle.dp_layers.specs.Layers.{is_paint_row};
 ghost use Rattle.dp_layers.specs.Rows.{layers_of};
@@ -42,7 +42,7 @@ pub trait BoardView {
 
     /// Copies a part of the row y of the pixels of the paint layer of the id, from x on.
     fn copy_part(&self, id: u16, x: u32, y: u32, part: &mut [Pixel])
-        requires paint { IsTrue (is_paint_row (layers_of (board self.now).rows) id) }
+        requires paint { is_paint_row (layers_of (board self.now).rows) id ≡ true }
         requires inside { y < (board self.now).height }
         requires within { x + length part.old ≤ (board self.now).width }
         ensures { part.new ≡ part_of_row (board self.now).width
@@ -51,7 +51,7 @@ pub trait BoardView {
     /// The colour of the tile at a column and a row of tiles, of the paint layer of the id. It is
     /// `None` if the tile isn't of one, or that isn't known without reading it.
     fn tile_color(&self, id: u16, col: u32, row: u32) -> Option<Pixel>
-        requires paint { IsTrue (is_paint_row (layers_of (board self.now).rows) id) }
+        requires paint { is_paint_row (layers_of (board self.now).rows) id ≡ true }
         requires across { col * 64 < (board self.now).width }
         requires down { row * 64 < (board self.now).height }
         ensures { IfSome result (λ color. ShowsTile (board self.now).width (board self.now).height
@@ -61,7 +61,7 @@ pub trait BoardView {
     /// colour, if it is known to be of one, and else leaves its pixels in the buffer, row by
     /// row. Past the canvas it may hold anything.
     fn tile(&self, id: u16, col: u32, row: u32, buffer: &mut [Pixel]) -> Option<Pixel>
-        requires paint { IsTrue (is_paint_row (layers_of (board self.now).rows) id) }
+        requires paint { is_paint_row (layers_of (board self.now).rows) id ≡ true }
         requires across { col * 64 < (board self.now).width }
         requires down { row * 64 < (board self.now).height }
         requires count { length buffer.old ≡ 4096 }

@@ -1,6 +1,6 @@
 -- Headers of recordings.
 use Rattle.std.specs.Prelude.{◌≡◌, ◌⊎◌, ℕ, ◌+◌, ◌<◌, ◌≤◌, List, [], ◌∷◌, ◌++◌, length, take, drop}
-use Rattle.std.specs.Prelude.{Some, codes, option_and_then, IsUtf8}
+use Rattle.std.specs.Prelude.{Some, codes, option_and_then, IsUtf8, ⊤}
 use Rattle.byteorder.specs.Endian.{big_number}
 use Rattle.serde_json.specs.Find.{as_str, get}
 use Rattle.serde_json.specs.Read.{read}
@@ -50,7 +50,7 @@ pub record IsShort (bytes : List ℕ) : Type 0 where
 abbrev pub IsHeaderRefused : List ℕ → HeaderError → Type 0
 IsHeaderRefused bytes Bad = HasNoHeader bytes × (IsShort bytes → ⊥)
 IsHeaderRefused bytes Short = IsShort bytes
-IsHeaderRefused bytes Memory = Unit {0}
+IsHeaderRefused bytes Memory = ⊤
 
 -- the header that is written
 abbrev pub header_bytes : List ℕ

@@ -1,6 +1,6 @@
 -- What a recording comes to, and what was read of one.
-use Rattle.std.specs.Prelude.{◌≡◌, ◌⊎◌, ◌≤◌, ℕ, ◌+◌, ◌-◌, IsTrue, List, [], ◌++◌, length}
-use Rattle.std.specs.Prelude.{Option, Some}
+use Rattle.std.specs.Prelude.{◌≡◌, ◌⊎◌, ◌≤◌, ℕ, ◌+◌, ◌-◌, List, [], ◌++◌, length}
+use Rattle.std.specs.Prelude.{Option, Some, true, ⊤}
 use Rattle.std.specs.Io.KnownBytes.{IsAtEnd}
 use Rattle.dp_io.specs.Faults.{Rose}
 use Rattle.std.specs.List.{flat_map}
@@ -97,13 +97,13 @@ EndsRecording input left entries (Message at why) =
     × IsBadFrame input (length entries) at why
 EndsRecording input left entries Long =
     RecordingComesTo input entries run.Long × RecordingTook 4096 input left
-EndsRecording input left entries Memory = Unit {0}
+EndsRecording input left entries Memory = ⊤
 
 -- how reading ended before the header was whole
 abbrev pub EndsEarly : List ℕ → Option (List ℕ) → RecError → Type 0
 EndsEarly input left BadHeader = HasNoHeader input × TookWithin IsShort 4096 input left
 EndsEarly input left ReadFault = TookWithin IsShort 0 input left
-EndsEarly input left Memory = Unit {0}
+EndsEarly input left Memory = ⊤
 EndsEarly input left (Truncated at) = ⊥
 EndsEarly input left (Message at why) = ⊥
 EndsEarly input left Long = ⊥
@@ -119,8 +119,8 @@ measure_of (Failed error) = 0
 -- it reads the entries after the header
 abbrev pub IsReading : Phase → Type 0
 IsReading New = ⊥
-IsReading (Lifting reader) = Unit {0}
-IsReading (Reading reader) = Unit {0}
+IsReading (Lifting reader) = ⊤
+IsReading (Reading reader) = ⊤
 IsReading Finished = ⊥
 IsReading (Failed error) = ⊥
 
@@ -134,27 +134,27 @@ limit_of (Failed error) = 0
 
 -- it has not ended
 abbrev pub GoesOn : Phase → Type 0
-GoesOn New = Unit {0}
-GoesOn (Lifting reader) = ¬ IsTrue reader.ended
-GoesOn (Reading reader) = ¬ IsTrue reader.ended
+GoesOn New = ⊤
+GoesOn (Lifting reader) = ¬ (reader.ended ≡ true)
+GoesOn (Reading reader) = ¬ (reader.ended ≡ true)
 GoesOn Finished = ⊥
 GoesOn (Failed error) = ⊥
 
 -- the input is at its end if reading it ended inside a frame
 abbrev pub EndsWithInput : Option (List ℕ) → RecError → Type 0
 EndsWithInput left (Truncated at) = IsAtEnd left
-EndsWithInput left BadHeader = Unit {0}
-EndsWithInput left ReadFault = Unit {0}
-EndsWithInput left (Message at why) = Unit {0}
-EndsWithInput left Long = Unit {0}
-EndsWithInput left Memory = Unit {0}
+EndsWithInput left BadHeader = ⊤
+EndsWithInput left ReadFault = ⊤
+EndsWithInput left (Message at why) = ⊤
+EndsWithInput left Long = ⊤
+EndsWithInput left Memory = ⊤
 
 -- What was read of an input of which these bytes are left, and what entries it gave: a header of
 -- this profile, and then frames that may stand so.
 abbrev pub HasReadAfter : Profile → (ℕ → FrameParts → Entry → Type 0) → List ℕ → Option (List ℕ)
     → List Entry → Reader → Type 0
 HasReadAfter profile MayStand input left entries reader =
-    IsHeader input profile reader.first × (reader.limit ≡ stream_limit) × ¬ IsTrue reader.ended
+    IsHeader input profile reader.first × (reader.limit ≡ stream_limit) × ¬ (reader.ended ≡ true)
     × HasRead MayStand input left entries reader
 
 -- What was read of an input of which these bytes are left, and what entries it gave: nothing was

@@ -1,7 +1,7 @@
 //! Reading a recording.
 
-ghost use Rattle.std.specs.Prelude.{◌≡◌, ◌<◌, ◌≤◌, ℕ, List, [], length, IfOk, IfErr, IsTrue, OnOk};
-ghost use Rattle.std.specs.Prelude.{Option, Some};
+ghost use Rattle.std.specs.Prelude.{◌≡◌, ◌<◌, ◌≤◌, ℕ, List, [], length, IfOk, IfErr, OnOk};
+ghost use Rattle.std.specs.Prelude.{Option, Some, true};
 ghost use Rattle.dp_recording.specs.declared.reader.RecError.TheVariants.{Memory};
 ghost use Rattle.dp_recording.specs.declared.reader.Phase.TheVariants.{New, Finished};
 ghost use Rattle.dp_recording.specs.declared.reader.Phase.TheVariants.{Failed};
@@ -309,7 +309,7 @@ fn reader_after<S: Standing>(
         → HoldsHeader bytes left held.now
         → HasReadAfter header.profile S.may_stand bytes left [] reader) }
     ensures limit { IfOk result (λ reader. reader.limit ≡ stream_limit) }
-    ensures goes_on { IfOk result (λ reader. ¬ IsTrue reader.ended) }
+    ensures goes_on { IfOk result (λ reader. ¬ (reader.ended ≡ true)) }
     ensures memory { IfErr result (λ error. error ≡ Memory) }
 {
     let mut reader = EntryReader::new(alloc, header.len as u64, LIMIT);

@@ -3,7 +3,7 @@
 ghost use Rattle.std.specs.Prelude.{◌≡◌, ℕ, ◌+◌, ◌-◌, ◌<◌, ◌≤◌, List, []};
 ghost use Rattle.std.specs.Prelude.{◌∷◌, ◌++◌};
 ghost use Rattle.std.specs.Prelude.{true, length};
-ghost use Rattle.std.specs.Prelude.{IfOk, OnOk, OnErr, IfSome, IsTrue, None, if◌then◌else◌};
+ghost use Rattle.std.specs.Prelude.{IfOk, OnOk, OnErr, IfSome, None, if◌then◌else◌};
 ghost use Rattle.std.specs.Option.{ForSome, option_to_list};
 ghost use Rattle.dp_board.specs.declared.act.UserAct.{UserAct as UserActOf};
 ghost use Rattle.dp_board.specs.Replay.{replay};
@@ -231,7 +231,7 @@ impl<B: Board> Rollback<B> {
 
     /// Whether an act that comes next moves no group.
     fn is_plain(&self, act: &UserAct<B::Op>) -> bool
-        ensures unmoved { IsTrue result → mark_in self.now.table act.now ≡ None }
+        ensures unmoved { result ≡ true → mark_in self.now.table act.now ≡ None }
         ensures order { IsInOrder self.now }
     {
         let _ = &self.base;

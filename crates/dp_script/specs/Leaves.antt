@@ -1,5 +1,5 @@
 -- What a run over the lines of an input leaves.
-use Rattle.std.specs.Prelude.{◌≡◌, ℕ, ◌≤◌, List, ◌∷◌, ◌++◌, length, Option, IfSome, IsTrue}
+use Rattle.std.specs.Prelude.{◌≡◌, ℕ, ◌≤◌, List, ◌∷◌, ◌++◌, length, Option, IfSome, true}
 use Rattle.std.specs.Io.KnownBytes.{IsAtEnd}
 use Rattle.dp_lines.specs.declared.line.Line.{Line}
 use Rattle.dp_lines.specs.Ends.{AreSteps, LinesComeTo, seen}
@@ -17,7 +17,7 @@ pub record HoldsNoCause (IsStep : List Line → Line → Type 0) (limit : ℕ) (
   where
     pub counts : length bytes ≤ limit
     pub steps : AreSteps IsStep (numbered 0 (ended bytes))
-    pub short : ¬ IsTrue (is_overlong (open_rest bytes))
+    pub short : ¬ (is_overlong (open_rest bytes) ≡ true)
 
 -- these bytes hold no cause to end, and these are the lines that are whole in them
 pub record HoldsLines (IsStep : List Line → Line → Type 0) (limit : ℕ) (done : List Line)

@@ -1,5 +1,5 @@
 -- What the calls of a client need.
-use Rattle.std.specs.Prelude.{◌≡◌, ◌<◌, ◌-◌, ◌^◌, true, is_some, MatchBool, None, [], ◌++◌, length}
+use Rattle.std.specs.Prelude.{◌≡◌, ◌<◌, ◌-◌, ◌^◌, true, is_some, MatchBool, None, [], ◌++◌, length, ⊤}
 use Rattle.dp_messages.specs.declared.message.Entry.{Entry}
 use Rattle.dp_client.specs.Client as client
 use Rattle.dp_epochs.specs.State.{open_connection}
@@ -27,4 +27,4 @@ pub record CanTake (past : Past) (participant : Participant) : Type 0 where
 -- the client can do what it does: no store failed, and it can take unless it is closed
 pub record CanAct (past : Past) (participant : Participant) : Type 0 where
   pub first_fault : past.first_fault ≡ None
-  pub take : MatchBool (is_closed participant.link) (Unit {0}) (CanTake past participant)
+  pub take : MatchBool (is_closed participant.link) ⊤ (CanTake past participant)

@@ -19,11 +19,11 @@ use Rattle.dp_sim.specs.World.{World, participant_of}
 -- what is said is no control message
 abbrev pub IsSayable : Instruction → Type 0
 IsSayable (Say m) = 32 ≤ kind_of m
-IsSayable Up = Unit {0}
-IsSayable Take = Unit {0}
-IsSayable (Reset keeps) = Unit {0}
-IsSayable Leave = Unit {0}
-IsSayable Cut = Unit {0}
+IsSayable Up = ⊤
+IsSayable Take = ⊤
+IsSayable (Reset keeps) = ⊤
+IsSayable Leave = ⊤
+IsSayable Cut = ⊤
 
 -- what the action has a client say is no control message
 abbrev pub SaysNoControl : Action → Type 0
@@ -42,7 +42,7 @@ is_closed Closed = true
 -- one.
 pub record IsParticipant (s : State) (number : ℕ) (participant : Participant) : Type 0 where
   pub conn : participant.conn ≡ number
-  pub running : MatchBool (is_closed participant.link) (Unit {0})
+  pub running : MatchBool (is_closed participant.link) ⊤
       (is_some (open_connection s number) ≡ true)
   pub began : participant.state.joined_epoch ≤ participant.state.epoch
   pub known : participant.state.epoch ≤ epoch_of s

@@ -1,6 +1,6 @@
 -- The moves of a client, of which its instructions are made.
 use Rattle.std.specs.Prelude.{◌≡◌, Bool, true, false, if◌then◌else◌, Option, None, Some, IfSome}
-use Rattle.std.specs.Prelude.{List, [], ◌∷◌, ◌++◌}
+use Rattle.std.specs.Prelude.{List, [], ◌∷◌, ◌++◌, ⊤}
 use Rattle.std.specs.Option.{option_map_or}
 use Rattle.dp_msg_meta.specs.declared.message.Control.TheVariants.{Disconnect}
 use Rattle.dp_messages.specs.declared.message.Msg.{Msg}
@@ -119,7 +119,7 @@ IsQueuedBy instruction Parting = instruction ≡ Leave
 -- isn't closed sends, takes or closes. What is sent is the first message of the uplink, and what is
 -- taken the next entry.
 abbrev pub IsMoveBy : Exchange → Instruction → Move → Type 0
-IsMoveBy t instruction Rests = Unit {0}
+IsMoveBy t instruction Rests = ⊤
 IsMoveBy t instruction (Queues queued) =
     IsQueuedBy instruction queued × (t.participant.link ≡ Connected)
 IsMoveBy t instruction (SendsFirst m rest) =

@@ -1,7 +1,7 @@
 //! The snapshot of a board.
 
 ghost use Rattle.std.specs.Prelude.{◌≡◌, ◌++◌, ◌<◌, ◌≤◌, Some, length, All};
-ghost use Rattle.std.specs.Prelude.{IfOk, IsTrue, OnOk};
+ghost use Rattle.std.specs.Prelude.{IfOk, OnOk, true};
 ghost use Rattle.std.specs.List.{flat_map};
 ghost use Rattle.dp_blend.specs.Canvas.{below};
 ghost use Rattle.dp_layers.specs.Layers.{is_paint_row, row_of};
@@ -91,7 +91,7 @@ fn put_layer<V: BoardView>(
     tile: &mut [Pixel],
     commands: &mut Commands,
 ) -> Result<(), AllocError>
-    requires paint { IsTrue (is_paint_row (layers_of (V.board canvas.now).rows) id) }
+    requires paint { is_paint_row (layers_of (V.board canvas.now).rows) id ≡ true }
     requires whole { length tile.old ≡ 4096 }
     ensures { OnOk result (commands.new ≡ commands.old
         ++ puts_of (V.board canvas.now).width (V.board canvas.now).height id
@@ -111,7 +111,7 @@ fn put_tiles<V: BoardView>(
     tile: &mut [Pixel],
     commands: &mut Commands,
 ) -> Result<(), AllocError>
-    requires paint { IsTrue (is_paint_row (layers_of (V.board canvas.now).rows) id) }
+    requires paint { is_paint_row (layers_of (V.board canvas.now).rows) id ≡ true }
     requires inside { row < 64 }
     requires whole { length tile.old ≡ 4096 }
     ensures { OnOk result (commands.new ≡ commands.old
@@ -134,7 +134,7 @@ fn put_tile<V: BoardView>(
     tile: &mut [Pixel],
     commands: &mut Commands,
 ) -> Result<(), AllocError>
-    requires paint { IsTrue (is_paint_row (layers_of (V.board canvas.now).rows) id) }
+    requires paint { is_paint_row (layers_of (V.board canvas.now).rows) id ≡ true }
     requires inside { (row < 64) × (col < 64) }
     requires whole { length tile.old ≡ 4096 }
     ensures { OnOk result (commands.new ≡ commands.old

@@ -1,7 +1,7 @@
 //! A tile of a layer: its pixels, and what is put into it.
 
 ghost use Rattle.std.specs.Prelude.{◌≡◌, ◌+◌, ◌*◌, ◌<◌, ◌≤◌, length, map, pos, min};
-ghost use Rattle.std.specs.Prelude.{All, IfOk, IfSome, IsTrue};
+ghost use Rattle.std.specs.Prelude.{All, IfOk, IfSome, true};
 ghost use Rattle.std.specs.List.{list_all};
 ghost use Rattle.dp_blend.specs.Canvas.{below};
 ghost use Rattle.dp_layers.specs.Layers.{is_paint_row};
@@ -34,7 +34,7 @@ pub(crate) fn shown_of(side: u32, number: u32) -> usize
 
 /// Leaves the pixels of the tile at a column and a row in `tile`.
 pub(crate) fn read_tile<V: BoardView>(canvas: &V, id: u16, col: u32, row: u32, tile: &mut [Pixel])
-    requires paint { IsTrue (is_paint_row (layers_of (V.board canvas.now).rows) id) }
+    requires paint { is_paint_row (layers_of (V.board canvas.now).rows) id ≡ true }
     requires inside { (col < 64) × (row < 64) }
     requires whole { length tile.old ≡ 4096 }
     ensures { tile.new ≡ pixels_of_tile (V.board canvas.now).width (V.board canvas.now).height
@@ -48,7 +48,7 @@ pub(crate) fn read_tile<V: BoardView>(canvas: &V, id: u16, col: u32, row: u32, t
 
 /// Leaves the pixels of a row from x on in `part`, clear past the canvas.
 fn read_part<V: BoardView>(canvas: &V, id: u16, x: u32, y: u32, part: &mut [Pixel])
-    requires paint { IsTrue (is_paint_row (layers_of (V.board canvas.now).rows) id) }
+    requires paint { is_paint_row (layers_of (V.board canvas.now).rows) id ≡ true }
     requires short { length part.old ≤ 64 }
     ensures { part.new ≡ map (λ i. pixel_of (V.board canvas.now).width (V.board canvas.now).height
         (pixels_of (V.board canvas.now) id) (pos (x + i)) (pos y)) (below (length part.old)) }

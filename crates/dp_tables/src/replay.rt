@@ -2,7 +2,7 @@
 //!
 //! The rule: docs/protocol.md, "Kept rows".
 
-ghost use Rattle.std.specs.Prelude.{◌≡◌, ◌↔◌, [], length, true, IsTrue, IfOk, OnOk, OnErr};
+ghost use Rattle.std.specs.Prelude.{◌≡◌, ◌↔◌, [], length, true, IfOk, OnOk, OnErr};
 ghost use Rattle.std.specs.Prelude.{MatchOption};
 ghost use Rattle.dp_epochs.specs.Effects.{IsEffect};
 ghost use Rattle.dp_epochs.specs.Rows.{row_of};
@@ -20,7 +20,7 @@ use std::alloc::AllocError;
 impl Tables {
     /// Whether the event names no connection, or one that was given out.
     fn names_given(&self, event: &Event) -> bool
-        ensures { IsTrue result ↔ NamesGiven (state_in self.now) event.now }
+        ensures { (result ≡ true) ↔ NamesGiven (state_in self.now) event.now }
     {
         match event {
             Event::Open { .. } => true,

@@ -1,5 +1,5 @@
 -- What is done to tiles.
-use Rattle.std.specs.Prelude.{◌≡◌, List, length, Option}
+use Rattle.std.specs.Prelude.{◌≡◌, List, length, Option, ⊤}
 use Rattle.dp_blend.specs.Color.{Channels}
 use Rattle.dp_tile.specs.declared.painter.TileChange.{TileChange}
 use Rattle.dp_tile.specs.declared.painter.TileChange.TheVariants.{Stays, Becomes, Unknown}
@@ -13,4 +13,4 @@ KnownChange Stays color painted =
 KnownChange (Becomes p) color painted =
     (pixels : List Channels) → length pixels ≡ 4096 → IsOfColor color pixels
     → painted pixels ≡ tile_of p
-KnownChange Unknown color painted = Unit {0}
+KnownChange Unknown color painted = ⊤

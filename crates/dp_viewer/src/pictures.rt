@@ -1,6 +1,6 @@
 //! The commands `replay` and `play`: an input whose picture is written.
 
-ghost use Rattle.std.specs.Prelude.{◌≤◌, IsTrue};
+ghost use Rattle.std.specs.Prelude.{◌≡◌, ◌≤◌, true};
 ghost use Rattle.dp_lines.specs.RunEnds.{FaultMatchesEnd};
 ghost use Rattle.dp_viewer.specs.Pictures.{PictureLeaves};
 ghost use Rattle.dp_viewer.specs.Reading.{ReadsToEnd, WritesShown};
@@ -93,8 +93,8 @@ pub fn run_play<R: Threads + Sync, I: Source, O: Sink, G: Gate, D: Ledger, T: Le
 
 /// Whether the input is read to its end if reading it ends with this.
 fn reads_to_end(end: RunEnd) -> bool
-    ensures yes { IsTrue result → ReadsToEnd end }
-    ensures no { ReadsToEnd end → IsTrue result }
+    ensures yes { result ≡ true → ReadsToEnd end }
+    ensures no { ReadsToEnd end → result ≡ true }
 {
     matches!(end, RunEnd::Done | RunEnd::Truncated(_))
 }

@@ -2,7 +2,7 @@
 //! tested.
 
 ghost use Rattle.std.specs.Prelude.{◌≡◌, ◌≤◌, true, false, None, Ok, Err, IfOk, OnErr};
-ghost use Rattle.std.specs.Prelude.{IsTrue, IsFalse, All, vec_len};
+ghost use Rattle.std.specs.Prelude.{IsFalse, All, vec_len};
 ghost use Rattle.dp_io.specs.Faults.{HasCause, one_more};
 ghost use Rattle.dp_wire.specs.Causes.{is_wire_fault};
 
@@ -162,7 +162,7 @@ impl<N: Net<Listener = TcpListener, Stream = TcpStream> + Drop> Wire for TcpWire
         // Each error is counted once.
         ensures counted { OnErr result (self.new.faults ≡ one_more self.old.faults) }
         ensures place { self.new.is_listening ≡ self.old.is_listening }
-        ensures listening { IsTrue self.old.is_listening → result ≡ Err WireError.Failed }
+        ensures listening { self.old.is_listening ≡ true → result ≡ Err WireError.Failed }
     {
         let link = match &self.place {
             Place::Listening(_) => {

@@ -1,11 +1,11 @@
 -- The values of options.
-use Rattle.std.specs.Prelude.{◌≡◌, ◌≤◌, ℕ, Option, Some, None}
+use Rattle.std.specs.Prelude.{◌≡◌, ◌≤◌, ℕ, Option, Some, None, ⊤}
 use Rattle.clap.specs.Walk.{Text}
 use Rattle.dp_lines.specs.Numbers.{IsLongNumber, IsNumber}
 
 -- a number, if there is a word, is the one that the word is
 abbrev pub HasAt : Option Text → Option ℕ → Type 0
-HasAt None None = Unit {0}
+HasAt None None = ⊤
 HasAt (Some word) (Some n) = IsNumber word n
 HasAt _ _ = ⊥
 
@@ -31,5 +31,5 @@ HasRounds (Some word) n = IsNumber word n × (n ≤ 100000)
 
 -- the number of links is at least 1, if there is one
 abbrev pub IsConns : Option ℕ → Type 0
-IsConns None = Unit {0}
+IsConns None = ⊤
 IsConns (Some n) = 1 ≤ n

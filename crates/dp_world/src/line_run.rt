@@ -1,7 +1,7 @@
 //! The lines of a schedule, done one at a time.
 
-ghost use Rattle.std.specs.Prelude.{◌≡◌, ◌≤◌, ℕ, List};
-ghost use Rattle.std.specs.Prelude.{IsErrOf, IsTrue, IfOk, IfErr, OnOk, IsSome, ◌↔◌};
+ghost use Rattle.std.specs.Prelude.{◌≡◌, ◌≤◌, ℕ, List, true};
+ghost use Rattle.std.specs.Prelude.{IsErrOf, IfOk, IfErr, OnOk, IsSome, ◌↔◌};
 ghost use Rattle.std.specs.Io.KnownBytes.{Appends};
 ghost use Rattle.dp_board.specs.Counts.{CountsFew};
 ghost use Rattle.dp_io.specs.Faults.{HasCause};
@@ -100,7 +100,7 @@ impl<B: ClientBoard> WorldRun<B> {
 
     /// Whether the client is there that the action names, if it names one.
     fn may_do(&self, action: &Action) -> bool
-        ensures { IsTrue result ↔ IsPossible self.now.world action.now }
+        ensures { (result ≡ true) ↔ IsPossible self.now.world action.now }
     {
         match action {
             Action::Join { .. } => true,
