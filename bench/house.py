@@ -25,7 +25,7 @@ from functools import cache
 ROOT = os.path.dirname(os.path.dirname(os.path.abspath(__file__)))
 LISTED = f"{ROOT}/bench/doubled_names.txt"
 DEFINED = re.compile(r"^(?:abbrev pub|unfoldable pub|pub record|record pub|record) (\S+)", re.M)
-LEMMA = re.compile(r"^((?:  )?)(?:abbrev )?pub ([^\s:(]+)(?: :|$)", re.M)
+LEMMA = re.compile(r"^((?:  ){0,3})(?:abbrev |unfoldable )?(?:pub )?([^\s:({]+) :", re.M)
 FN = re.compile(r"^( *)(?:pub(?:\([^)]*\))? )?(?:const )?fn (\w+)")
 # What a name in a proof file may be written with, beside letters, digits and `_`.
 WORD = r"[^\s(){}\[\],;:.λ]+"
@@ -94,7 +94,8 @@ def blocks_of(text):
         indent, name = found.groups()
         own = re.compile(rf"{indent}(?:abbrev )?(?:pub )?{re.escape(name)}(?=[\s:])")
         end = at + 1
-        while end < len(lines) and (not lines[end].strip() or lines[end].startswith(f"{indent} ") or own.match(lines[end])):
+        goes_on = lambda line: not line.strip() or line.startswith((f"{indent} ", f"{indent}unfolding ")) or own.match(line)
+        while end < len(lines) and goes_on(lines[end]):
             end += 1
         yield name, re.findall(WORD, "\n".join(lines[at:end]))
 

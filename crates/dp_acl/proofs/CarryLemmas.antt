@@ -15,8 +15,7 @@ use Rattle.dp_msg_meta.specs.declared.message.Meta.TheVariants.{Owners, Trusted,
 use Rattle.dp_msg_meta.specs.declared.message.Meta.TheVariants.{FeatureTiers, UndoDepth}
 use Rattle.dp_messages.specs.declared.message.Entry.{Entry}
 use Rattle.dp_acl.specs.LookBack.{numbers_below, LayerRule}
-use Rattle.dp_acl.specs.Rights.{is_operator, is_trusted, is_lock_listed}
-use Rattle.dp_acl.specs.Rights.{rule_of}
+use Rattle.dp_acl.specs.Rights.{is_operator, is_trusted, is_lock_listed, rule_of}
 use Rattle.dp_acl.specs.Carried.{acl_with, carried_rule, carried_rules, carried}
 use Rattle.dp_acl.specs.Table.{Kept, KeptRule, Mark, mark_of, kept_rule, rule_in_order, StandsFor}
 use Rattle.dp_acl.specs.RuleTable.{acl_of, RulesRise}

@@ -1,11 +1,9 @@
 -- Marks as lists of ids.
-use Rattle.std.proofs.Common.{◌≡◌, ◌≢◌, ℕ, zero, suc, ◌+◌, ◌<◌, ◌≤◌, ◌==◌, ◌||◌}
-use Rattle.std.proofs.Common.{Bool, true, false, not, cond, IsTrue, List, [], ◌∷◌, length}
-use Rattle.std.proofs.Common.{All}
-use Rattle.std.proofs.Common.{refl, sym, ap, ◌∙◌, inl, inr, arith}
+use Rattle.std.proofs.Common.{◌≡◌, ◌≢◌, ℕ, zero, suc, ◌+◌, ◌<◌, ◌≤◌, ◌==◌, ◌||◌, Bool, true, false}
+use Rattle.std.proofs.Common.{not, cond, IsTrue, List, [], ◌∷◌, length, All, refl, sym, ap, ◌∙◌}
+use Rattle.std.proofs.Common.{inl, inr, arith}
 use Rattle.std.specs.List.{filter, list_all, range_with_len}
-use Rattle.std.proofs.lemmas.Bool.{cases_eq, eq-eqb, ne_eqb, cond-true}
-use Rattle.std.proofs.lemmas.Bool.{cond-false}
+use Rattle.std.proofs.lemmas.Bool.{cases_eq, eq-eqb, ne_eqb, cond-true, cond-false, not-true}
 use Rattle.std.proofs.lemmas.Bool.{false≢true}
 use Rattle.std.proofs.lemmas.List.Sums.{AllPass-from_list_all, list_all-from_AllPass}
 use Rattle.std.proofs.lemmas.List.Elements.{All-get_or, All-from_get_or}
@@ -16,10 +14,6 @@ use Rattle.dp_acl.specs.Table.{mark_of, Mark}
 use Rattle.dp_acl.specs.Marks.{marked}
 use Rattle.dp_acl.proofs.ListLemmas.{filter-same, All-range, filter-numbers, filter-none}
 use Rattle.dp_acl.proofs.ListLemmas.{filter-numbers_nil, lists-filter}
-
-not-true : (b : Bool) → not b ≡ true → b ≡ false
-not-true true is = cc
-not-true false is = refl
 
 -- ids that are listed and marked alike are the marked ones
 pub marked-in_order : (marks : List Bool) (ids : List ℕ) → Mark marks (lists ids)

@@ -1,6 +1,5 @@
 -- The laws of rights.
-use Rattle.std.proofs.Common.{◌≡◌, ℕ, zero, suc, ◌+◌, ◌<◌, ◌==◌, ◌&&◌, ◌||◌, not, Bool}
-use Rattle.std.proofs.Common.{true, false}
+use Rattle.std.proofs.Common.{◌≡◌, ℕ, zero, suc, ◌+◌, ◌<◌, ◌==◌, ◌&&◌, ◌||◌, not, Bool, true, false}
 use Rattle.std.proofs.Common.{if◌then◌else◌, List, [], ◌∷◌, ◌++◌, Option, Some, None, unwrap_or}
 use Rattle.std.proofs.Common.{refl, sym, ap, subst, ◌∙◌, inl, inr, arith, append_assoc, append-nil}
 use Rattle.std.proofs.Common.{zero-add}
@@ -22,17 +21,14 @@ use Rattle.dp_acl.specs.LookBack as said
 use Rattle.dp_acl.specs.LookBack.{numbers_below, lists, is_join_of, has_joined, owners, LayerRule}
 use Rattle.dp_acl.specs.LookBack.{layer_rule}
 use Rattle.dp_acl.specs.Rights.{is_operator, is_trusted, is_registered, are_all_locked}
-use Rattle.dp_acl.specs.Rights.{is_lock_listed}
-use Rattle.dp_acl.specs.Rights.{is_locked, tier_of, tiers_of, has_feature, rule_of}
-use Rattle.dp_acl.specs.Rights.{lets_paint}
-use Rattle.dp_acl.specs.Rights.{may_paint, may_edit_layer, creator_of}
+use Rattle.dp_acl.specs.Rights.{is_lock_listed, is_locked, tier_of, tiers_of, has_feature, rule_of}
+use Rattle.dp_acl.specs.Rights.{lets_paint, may_paint, may_edit_layer, creator_of}
 use Rattle.dp_acl.specs.Permitted.{permits_control, permits_meta, permits_draw, permitted}
 use Rattle.dp_acl.specs.Laws.{filtered, ForbiddenChangesNoRight, OperatorsStay}
 use Rattle.dp_acl.specs.Laws.{SpelledIdsAreInOrder}
 use Rattle.dp_acl.proofs.ListLemmas.{filter-same, filter-none, All-range}
 use Rattle.dp_acl.proofs.PushLemmas.{joined-push, listed_after, listed-push, registered-push}
-use Rattle.dp_acl.proofs.PushLemmas.{all_locked-push}
-use Rattle.dp_acl.proofs.PushLemmas.{tiers-push, rule-push}
+use Rattle.dp_acl.proofs.PushLemmas.{all_locked-push, tiers-push, rule-push}
 
 -- ---- ids in order
 
@@ -241,30 +237,21 @@ module _ (one other : List Entry) (user : ℕ)
   undo-cases own = cc (use-same (λ tiers. tiers.undo), operator-same)
 
   control-same : (m : Control) → permits_control one user m ≡ permits_control other user m
-  control-same (control.Hello name) = refl
-  control-same (control.Disconnect reason) = refl
-  control-same (control.Ping pong) = refl
-  control-same (control.Ack epoch) = refl
-  control-same (control.Welcome version welcomed epoch at) = refl
   control-same control.ResetBegin = operator-same
   control-same control.ResetEnd = operator-same
   control-same (control.ResetFrom at) = operator-same
+  control-same _ = refl
 
   meta-same : (m : Meta) → permits_meta one user m ≡ permits_meta other user m
-  meta-same (meta.Join registered name) = refl
-  meta-same meta.Leave = refl
   meta-same (meta.Owners ids) = operator-same
-  meta-same (meta.Chat text) = refl
   meta-same (meta.Trusted ids) = operator-same
-  meta-same (meta.ResetMark epoch carried) = refl
   meta-same (meta.Laser x y) = feature-same (λ tiers. tiers.laser)
-  meta-same (meta.MovePointer x y) = refl
   meta-same (meta.UserAcl ids) = operator-same
   meta-same (meta.LayerAcl layer locked tier ids) = ap (λ b. b || creator_of layer == user)
       operator-same
   meta-same (meta.FeatureTiers tiers) = operator-same
-  meta-same (meta.Filtered kind) = refl
   meta-same (meta.UndoDepth depth) = operator-same
+  meta-same _ = refl
 
   draw-same : (m : Draw) → LetAlike one other user (painted_by m)
       → permits_draw one user m ≡ permits_draw other user m

@@ -1,8 +1,7 @@
 -- Facts on lists that std lacks.
 use Rattle.std.proofs.Common.{◌≡◌, ℕ, zero, suc, ◌+◌, ◌<◌, ◌≤◌, ◌==◌, Bool, true, false, ◌&&◌, ◌||◌}
-use Rattle.std.proofs.Common.{cond}
-use Rattle.std.proofs.Common.{List, [], ◌∷◌, ◌++◌, All}
-use Rattle.std.proofs.Common.{refl, sym, ap, subst, ◌∙◌, inl, inr, arith, append-nil, zero-add}
+use Rattle.std.proofs.Common.{cond, List, [], ◌∷◌, ◌++◌, All, refl, sym, ap, subst, ◌∙◌, inl, inr}
+use Rattle.std.proofs.Common.{arith, append-nil, zero-add}
 use Rattle.std.specs.List.{filter, range_with_len}
 use Rattle.std.proofs.lemmas.Bool.{cases_eq, cond-true, cond-false, eq-eqb, ne_eqb, eqb-true}
 use Rattle.std.proofs.lemmas.List.{map-id}
@@ -10,11 +9,8 @@ use Rattle.std.proofs.lemmas.List.Elements.{All-head, All-tail, filter-append}
 use Rattle.std.proofs.lemmas.Map.Views.{any-filter_same}
 use Rattle.std.proofs.lemmas.List.FromFn.{length-range_with_len, get_or-range_with_len}
 use Rattle.std.proofs.lemmas.List.FromFn.{map-range_with_len_more}
+use Rattle.std.proofs.Math.Bool.{and-true}
 use Rattle.dp_acl.specs.LookBack.{numbers_below, lists}
-
-pub and_true : (b : Bool) → (b && true) ≡ b
-and_true true = refl
-and_true false = refl
 
 -- two tests that agree on the items keep the same ones
 pub filter-same : {X : Type 0} (p q : X → Bool) (xs : List X) → All (λ x. p x ≡ q x) xs
@@ -66,7 +62,7 @@ pub lists-filter : (p : ℕ → Bool) (n id : ℕ) → id < n → lists (filter 
 lists-filter p n id lt =
     any-filter_same (λ o. o == id) p (p id) (λ k same. ap p (eqb-true k id same)) (numbers_below n)
     ∙ ap (λ b. p id && b) (lists-numbers n id lt)
-    ∙ and_true (p id)
+    ∙ and-true (p id)
 
 -- if no number below n passes, no test is true
 pub filter-numbers_nil : (p : ℕ → Bool) (n id : ℕ) → filter p (numbers_below n) ≡ [] → id < n

@@ -1,11 +1,11 @@
 -- The laws of openings: commands change no right, and nor does what an epoch opens with.
-use Rattle.std.proofs.Common.{◌≡◌, ℕ, ◌+◌, ◌<◌, ◌==◌, ◌&&◌, ◌||◌, Bool, true, false}
-use Rattle.std.proofs.Common.{if◌then◌else◌, List, [], ◌∷◌, ◌++◌, map, Option, Some, None, IfSome}
-use Rattle.std.proofs.Common.{All, refl, sym, ap, subst, ◌∙◌, inl, inr, arith}
-use Rattle.std.proofs.Common.{append_assoc, append-nil, rules}
+use Rattle.std.proofs.Common.{◌≡◌, ℕ, ◌+◌, ◌<◌, ◌==◌, ◌&&◌, ◌||◌, Bool, true, false, if◌then◌else◌}
+use Rattle.std.proofs.Common.{List, [], ◌∷◌, ◌++◌, map, Option, Some, None, IfSome, All, refl, sym}
+use Rattle.std.proofs.Common.{ap, subst, ◌∙◌, inl, inr, arith, append_assoc, append-nil, rules}
 use Rattle.std.specs.List.{filter, filter_map, after_last}
 use Rattle.std.specs.Option.{option_map, option_map_or, option_or}
 use Rattle.std.proofs.lemmas.Bool.{cases_eq, ne_eqb, eqb-true, false≢true}
+use Rattle.std.proofs.Math.Bool.{and-false, and-true, or-false}
 use Rattle.std.proofs.lemmas.List.Folds.{list_any-append}
 use Rattle.std.proofs.lemmas.Map.Views.{any-filter_same}
 use Rattle.dp_msg_draw.specs.declared.draw.Draw.{Draw}
@@ -26,14 +26,12 @@ use Rattle.dp_acl.specs.Step.{IsKeptAfter}
 use Rattle.dp_acl.specs.Table.{Kept, StandsFor, rule_in_order}
 use Rattle.dp_acl.specs.Opening.{server_entry, command_entry, last_join, goes_over, GoOver, opening}
 use Rattle.dp_acl.specs.Laws.{CommandsChangeNoRight, KeptChangeNoRight, OpeningsChangeNoRight}
-use Rattle.dp_acl.proofs.ListLemmas.{and_true}
 use Rattle.dp_acl.proofs.StepLemmas.{stands-push, kept-other}
 use Rattle.dp_acl.proofs.PaintLemmas.{lets-in_order}
 use Rattle.dp_acl.proofs.LawLemmas.{Look, look, but_rule, LetAlike, painted_by, painted_layer}
 use Rattle.dp_acl.proofs.LawLemmas.{permitted-same, lists-below}
 use Rattle.dp_acl.proofs.LookLemmas.{look_all, look-all, all-append, all-commands, all-kept}
-use Rattle.dp_acl.proofs.LookLemmas.{all-joins}
-use Rattle.dp_acl.proofs.LookLemmas.{at_start, all-depth, ruled, all-rules}
+use Rattle.dp_acl.proofs.LookLemmas.{all-joins, at_start, all-depth, ruled, all-rules}
 
 -- ---- commands
 
@@ -84,7 +82,7 @@ filter-listed : (p : ℕ → Bool) (ids : List ℕ) (id : ℕ) → lists ids id 
 filter-listed p ids id listed =
     any-filter_same (λ other. other == id) p (p id) (λ k same. ap p (eqb-true k id same)) ids
     ∙ ap (λ b. p id && b) listed
-    ∙ and_true (p id)
+    ∙ and-true (p id)
 
 -- an id that isn't listed is not among them
 filter-absent : (p : ℕ → Bool) (ids : List ℕ) (id : ℕ) → lists ids id ≡ false
@@ -92,11 +90,7 @@ filter-absent : (p : ℕ → Bool) (ids : List ℕ) (id : ℕ) → lists ids id 
 filter-absent p ids id absent =
     any-filter_same (λ other. other == id) p (p id) (λ k same. ap p (eqb-true k id same)) ids
     ∙ ap (λ b. p id && b) absent
-    ∙ and_false (p id)
-  where
-    and_false : (b : Bool) → (b && false) ≡ false
-    and_false true = refl
-    and_false false = refl
+    ∙ and-false (p id)
 
 -- who hasn't joined isn't listed
 listed-joined : (ids : Msg → Option (List ℕ)) (history : List Entry) (user : ℕ)
@@ -122,10 +116,6 @@ lock-other : (b : Bool) (user : ℕ) → (0 == user) ≡ false
 lock-other true user other = ap (λ b. b || false) other
 lock-other false user other = refl
 
-or_false : (b : Bool) → (b || false) ≡ b
-or_false true = refl
-or_false false = refl
-
 module _ (history : List Entry) (present : List ℕ) (user : ℕ) (rise : RiseFrom 1 present)
     (listed : lists present user ≡ true) where
   -- the ids of the UserAcl that is carried
@@ -139,7 +129,7 @@ module _ (history : List Entry) (present : List ℕ) (user : ℕ) (rise : RiseFr
       ∙ ap (λ b. lists (lock_of_all history) 0 || b)
       (filter-absent (is_lock_listed history) present 0
       (lists-below 1 0 present rise (omega arith)))
-      ∙ or_false (lists (lock_of_all history) 0)
+      ∙ or-false (lists (lock_of_all history) 0)
       ∙ lock-zero (are_all_locked history)
 
   not-zero : 0 ≡ user → ⊥
@@ -222,19 +212,13 @@ module _ (history : List Entry) (present : List ℕ) (user : ℕ) (rise : RiseFr
 
 -- a layer that a message paints on has two bytes, if the message has a spelling
 painted_by-small : (m : Draw) → DrawHasSpelling m → painted_by m < 65536
-painted_by-small (draw.CanvasResize top right bottom left) spelled = omega arith
-painted_by-small (draw.LayerCreate id parent group title) spelled = omega arith
-painted_by-small (draw.LayerAttr id opacity mode hidden) spelled = omega arith
-painted_by-small (draw.LayerTitle id title) spelled = omega arith
-painted_by-small (draw.LayerMove id parent above) spelled = omega arith
-painted_by-small (draw.LayerDelete id) spelled = omega arith
 painted_by-small (draw.PutImage layer mode x y w h colors) spelled = spelled.0
 painted_by-small (draw.FillRect layer mode x y w h color) spelled = spelled.0
 painted_by-small (draw.PutTile layer col row repeat content) spelled = spelled.0
-painted_by-small (draw.Background color) spelled = omega arith
 painted_by-small (draw.DabsRound layer x y r g b mode dabs) spelled = spelled.0
 painted_by-small (draw.DabsSquare layer x y r g b mode dabs) spelled = spelled.0
 painted_by-small (draw.MoveRect layer sx sy w h tx ty) spelled = spelled.0
+painted_by-small _ spelled = omega arith
 
 painted-small : (m : Msg) → HasSpelling m → painted_layer m < 65536
 painted-small (msg.Draw command) spelled = painted_by-small command spelled

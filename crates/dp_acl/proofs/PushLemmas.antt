@@ -114,9 +114,7 @@ rule-push history e layer = last_said-push (layer_rule layer) history e
 
 or_swap : (a b : Bool) → (a || (b || false)) ≡ (b || a)
 or_swap true true = refl
-or_swap true false = refl
-or_swap false true = refl
-or_swap false false = refl
+or_swap _ _ = refl
 
 pub joined-push : (history : List Entry) (e : Entry) (user : ℕ)
     → has_joined (history ++ e ∷ []) user ≡ (is_join_of user e || has_joined history user)

@@ -9,13 +9,12 @@ use Rattle.dp_messages.specs.declared.message.Msg.{Msg}
 use Rattle.dp_messages.specs.declared.message.Msg.TheVariants as msg
 use Rattle.dp_messages.specs.declared.message.Entry.{Entry}
 use Rattle.dp_acl.specs.LookBack as said
-use Rattle.dp_acl.specs.LookBack.{lists, LayerRule, layer_rule, is_join_of, has_joined}
+use Rattle.dp_acl.specs.LookBack.{lists, LayerRule, layer_rule}
 use Rattle.dp_acl.specs.Rights.{is_listed, rule_of}
 use Rattle.dp_acl.specs.Table.{Kept, KeptRule, Mark, kept_rule, rule_in_order, StandsFor}
 use Rattle.dp_acl.specs.Marks.{marked}
 use Rattle.dp_acl.specs.Step.{meta_entry, listed_after, IsKeptAfter}
-use Rattle.dp_acl.proofs.PushLemmas.{joined-push, listed-push, registered-push}
-use Rattle.dp_acl.proofs.PushLemmas.{all_locked-push}
+use Rattle.dp_acl.proofs.PushLemmas.{joined-push, listed-push, registered-push, all_locked-push}
 use Rattle.dp_acl.proofs.PushLemmas.{tiers-push, depth-push, rule-push}
 use Rattle.dp_acl.proofs.IdLemmas.{marked-in_order}
 
@@ -76,12 +75,7 @@ module _ (before after : Kept) (history : List Entry) (e : Entry)
 pub kept-other : (kept : Kept) (user : ℕ) (m : Msg) → ((meta : Meta) → m ≡ msg.Meta meta → ⊥)
     → IsKeptAfter kept (record { user = user; msg = m }) kept
 kept-other kept user (msg.Meta meta) other = absurd (other meta refl)
-kept-other kept user (msg.Control m) other = search rules
-kept-other kept user (msg.Part m) other = search rules
-kept-other kept user msg.Point other = search rules
-kept-other kept user (msg.Undo target redo) other = search rules
-kept-other kept user (msg.Draw m) other = search rules
-kept-other kept user (msg.Opaque kind body) other = search rules
+kept-other kept user _ other = search rules
 
 -- how much memory is spared doesn't matter
 pub stands-room : (kept : Kept) (room : ℕ) (history : List Entry) → StandsFor kept history

@@ -69,8 +69,6 @@ never_bad : (M : ℕ → FrameParts → Entry → Type 0) → Laws M
     ≡ flat_map spelling gs ++ rest → ⊥
 never_bad M laws k n [] [] ds bad more rest at each each_too fits nothing stand none whole = none
     bad more fits (sym whole)
-never_bad M laws k n [] (g ∷ gs) [] bad more rest at each each_too fits nothing stand none whole =
-    absurd stand
 never_bad M laws k n [] (g ∷ gs) (d ∷ ds) bad more rest at each each_too fits nothing stand none
     whole =
     let same = laws.first bad g more (flat_map spelling gs ++ rest) fits each_too.0
@@ -80,14 +78,14 @@ never_bad M laws k n [] (g ∷ gs) (d ∷ ds) bad more rest at each each_too fit
 never_bad M laws k n (f ∷ fs) [] ds bad more rest at each each_too fits nothing stand none whole =
     none f (flat_map spelling fs ++ (spelling bad ++ more)) each.0
     (sym whole ∙ append_assoc (spelling f) (flat_map spelling fs) (spelling bad ++ more))
-never_bad M laws k n (f ∷ fs) (g ∷ gs) [] bad more rest at each each_too fits nothing stand none
-    whole = absurd stand
 never_bad M laws k n (f ∷ fs) (g ∷ gs) (d ∷ ds) bad more rest at each each_too fits nothing stand
     none whole =
     let same = same_first M laws f g fs gs (spelling bad ++ more) rest each.0 each_too.0 whole in
     let next : n ≡ (k + 1) + length fs = omega (arith, at) in
     never_bad M laws (k + 1) n fs gs ds bad more rest next each.1 each_too.1 fits nothing stand.1
     none same.1
+never_bad M laws k n _ (g ∷ gs) [] bad more rest at each each_too fits nothing stand none whole =
+    absurd stand
 
 -- the first frame that may not stand where it is stands at one place, after one list of entries
 same_bad : (M : ℕ → FrameParts → Entry → Type 0) → Laws M
@@ -102,8 +100,6 @@ same_bad M laws k i j [] [] [] [] b c m n at at_too each each_too fits fits_too 
     stand_too whole = (refl, refl)
 same_bad M laws k i j [] [] [] (y ∷ ds) b c m n at at_too each each_too fits fits_too none none_too
     stand stand_too whole = absurd stand_too
-same_bad M laws k i j [] [] (x ∷ es) ds b c m n at at_too each each_too fits fits_too none none_too
-    stand stand_too whole = absurd stand
 same_bad M laws k i j [] (g ∷ gs) es [] b c m n at at_too each each_too fits fits_too none none_too
     stand stand_too whole = absurd stand_too
 same_bad M laws k i j [] (g ∷ gs) es (y ∷ ds) b c m n at at_too each each_too fits fits_too none
@@ -112,8 +108,6 @@ same_bad M laws k i j [] (g ∷ gs) es (y ∷ ds) b c m n at at_too each each_to
     (whole ∙ append_assoc (spelling g) (flat_map spelling gs) (spelling c ++ n)) in
     let here : i ≡ k = omega (arith, at) in
     absurd (none y (stands_at M k i b g y here same.0 stand_too.0))
-same_bad M laws k i j (f ∷ fs) gs [] ds b c m n at at_too each each_too fits fits_too none none_too
-    stand stand_too whole = absurd stand
 same_bad M laws k i j (f ∷ fs) [] (x ∷ es) ds b c m n at at_too each each_too fits fits_too none
     none_too stand stand_too whole =
     let same = laws.first f c (flat_map spelling fs ++ (spelling b ++ m)) n each.0 fits_too
@@ -143,6 +137,8 @@ same_bad M laws k i j (f ∷ fs) (g ∷ gs) (x ∷ es) (y ∷ ds) b c m n at at_
         length-append (spelling g) (flat_map spelling gs),
       ),
     )
+same_bad M laws k i j _ _ _ ds b c m n at at_too each each_too fits fits_too none none_too stand
+    stand_too whole = absurd stand
 
 -- what the counted bytes tell: a frame that may not stand there, or none
 not_both : (M : ℕ → FrameParts → Entry → Type 0) → Laws M

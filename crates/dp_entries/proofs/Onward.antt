@@ -1,16 +1,16 @@
 -- How reading goes on from where a stream stands, and how it ends.
-use Rattle.std.proofs.Common.{◌≡◌, ◌⊎◌, inl, inr, ℕ, zero, suc, ◌+◌, ◌*◌, ◌/◌, ◌%◌, ◌<◌, ◌≤◌}
-use Rattle.std.proofs.Common.{List, [], ◌∷◌, ◌++◌, length, take, drop}
-use Rattle.std.proofs.Common.{refl, sym, ap, ◌∙◌, subst, append_assoc, append-nil, length-append}
-use Rattle.std.proofs.Common.{arith, false, IsTrue}
+use Rattle.std.proofs.Common.{◌≡◌, ◌⊎◌, inl, inr, ℕ, zero, suc, ◌+◌, ◌<◌, ◌≤◌, List, [], ◌∷◌, ◌++◌}
+use Rattle.std.proofs.Common.{length, take, refl, sym, ap, ◌∙◌, subst, append_assoc, append-nil}
+use Rattle.std.proofs.Common.{length-append, arith, false, IsTrue}
 use Rattle.std.specs.Prelude.{Option, ◌-◌, ◌↔◌}
 use Rattle.std.specs.List.{flat_map}
 use Rattle.std.proofs.KnownBytes.{Consumes-nil, Consumes-trans, Consumes-kept}
 use Rattle.std.proofs.Math.Seq.{take-append-add}
 use Rattle.std.proofs.lemmas.Bool.{cases_lt, false≢true}
-use Rattle.std.proofs.lemmas.List.{take-append-drop, length-take-le, take_all}
+use Rattle.std.proofs.lemmas.List.{take_all}
 use Rattle.std.specs.Io.KnownBytes.{Consumes, Keeps}
-use Rattle.dp_frame.specs.Frames.{FrameParts, IsFrame, spelling, HoldsNoFrame}
+use Rattle.dp_frame.specs.Frames.{FrameParts, spelling, HoldsNoFrame}
+use Rattle.dp_frame.proofs.Spellings.{begins_with_frame}
 use Rattle.dp_split.specs.Stream.{Stream}
 use Rattle.dp_messages.specs.declared.message.Entry.{Entry}
 use Rattle.dp_entries.specs.declared.ends.ReadEnd.TheVariants.{Long, Memory}
@@ -36,35 +36,14 @@ bytes_first (suc n) [] p k = omega arith
 bytes_first (suc n) (x ∷ xs) p zero = p 0
 bytes_first (suc n) (x ∷ xs) p (suc k) = bytes_first n xs (λ j. p (suc j)) k
 
--- a header with the payload that it announces after it is a frame
-begins_with_frame : (a b c d : ℕ) (tail : List ℕ) → a < 256 → b < 256 → a * 256 + b ≤ length tail
-    → (f : FrameParts) × (more : List ℕ) × IsFrame f × (a ∷ b ∷ c ∷ d ∷ tail ≡ spelling f ++ more)
-begins_with_frame a b c d tail small_a small_b enough =
-    let n = a * 256 + b in
-    let body = take n tail in
-    let len : length body ≡ n = length-take-le n tail enough in
-    let high : a ≡ length body / 256 % 256 = omega arith in
-    let low : b ≡ length body % 256 = omega arith in (
-      record { kind = c; user = d; body = body },
-      drop n tail,
-      omega arith,
-      ap (λ (x : ℕ). x ∷ b ∷ c ∷ d ∷ tail) high
-          ∙ ap (λ (x : ℕ). (length body / 256 % 256) ∷ x ∷ c ∷ d ∷ tail) low
-          ∙ ap (λ (t : List ℕ). (length body / 256 % 256) ∷ (length body % 256) ∷ c ∷ d ∷ t)
-          (sym (take-append-drop n tail)),
-    )
-
 -- as many bytes as the longest frame has hold a frame
 long_holds : (bytes : List ℕ) → AreBytes bytes → 65539 ≤ length bytes → HoldsNoFrame bytes → ⊥
-long_holds [] small long none = absurd (omega arith)
-long_holds (a ∷ []) small long none = absurd (omega arith)
-long_holds (a ∷ b ∷ []) small long none = absurd (omega arith)
-long_holds (a ∷ b ∷ c ∷ []) small long none = absurd (omega arith)
 long_holds (a ∷ b ∷ c ∷ d ∷ tail) small long none =
     let first : a < 256 = small 0 in
     let second : b < 256 = small 1 in
     let found = begins_with_frame a b c d tail first second (omega arith) in
     none found.0 found.1 found.2 found.3
+long_holds _ small long none = absurd (omega arith)
 
 pub short_rest : (bytes : List ℕ) → AreBytes bytes → HoldsNoFrame bytes → length bytes < 65539
 short_rest bytes small none = by_length (cases_lt (length bytes) 65539)

@@ -1,5 +1,5 @@
 -- One frame and the bytes after it.
-use Rattle.std.proofs.Common.{◌≡◌, ℕ, ◌+◌, ◌*◌, ◌/◌, ◌%◌, ◌<◌, ◌≤◌, List, [], ◌∷◌, ◌++◌, length}
+use Rattle.std.proofs.Common.{◌≡◌, ℕ, ◌+◌, ◌*◌, ◌/◌, ◌%◌, ◌<◌, ◌≤◌, List, ◌∷◌, ◌++◌, length}
 use Rattle.std.proofs.Common.{get_or, take, drop, refl, sym, ap, ◌∙◌, arith, length-append}
 use Rattle.std.proofs.lemmas.List.{take_at, drop_at, take-append-drop, length-take-le}
 use Rattle.byteorder.specs.Endian.{big_number}
@@ -76,13 +76,10 @@ begins_with_frame a b c d tail small_a small_b enough =
 -- bytes that have all that the header announces hold a frame
 pub holds_frame : (bytes : List ℕ) → ((i : ℕ) → get_or bytes i 0 < 256) → 4 ≤ length bytes
     → big_number 2 bytes + 4 ≤ length bytes → HoldsNoFrame bytes → ⊥
-holds_frame [] small long enough none = absurd (omega arith)
-holds_frame (a ∷ []) small long enough none = absurd (omega arith)
-holds_frame (a ∷ b ∷ []) small long enough none = absurd (omega arith)
-holds_frame (a ∷ b ∷ c ∷ []) small long enough none = absurd (omega arith)
 holds_frame (a ∷ b ∷ c ∷ d ∷ tail) small long enough none =
     let found = begins_with_frame a b c d tail (small 0) (small 1) (omega arith) in
     none found.0 found.1 found.2 found.3
+holds_frame _ small long enough none = absurd (omega arith)
 
 -- what is taken first is a frame, and the rest is after it
 pub frame_and_rest : (held rest : List ℕ) (len : ℕ) (f : FrameParts) → take len held ≡ spelling f

@@ -43,15 +43,12 @@ same_frames_and_rest bytes fs gs r s p q =
 first_of : (bytes : List ℕ) → AllByRecursion (λ b. b < 256) bytes
     → HoldsNoFrame bytes ⊎ ((f : FrameParts) × (more : List ℕ) × IsFrame f
     × (bytes ≡ spelling f ++ more))
-first_of [] small = inl (no_frame_short _ (omega arith))
-first_of (a ∷ []) small = inl (no_frame_short _ (omega arith))
-first_of (a ∷ b ∷ []) small = inl (no_frame_short _ (omega arith))
-first_of (a ∷ b ∷ c ∷ []) small = inl (no_frame_short _ (omega arith))
 first_of (a ∷ b ∷ c ∷ d ∷ tail) small =
     elim (cases_lt (length tail) (a * 256 + b)) [
       | inl partial ↦ inl (no_frame_partial (a ∷ b ∷ c ∷ d ∷ tail) (omega arith))
       | inr enough ↦ inr (begins_with_frame a b c d tail small.0 small.1.0 enough)
     ]
+first_of _ small = inl (no_frame_short _ (omega arith))
 
 -- a frame before a splitting is one frame more
 pub frame_before : (f : FrameParts) (bytes : List ℕ) (fs : List FrameParts) (rest : List ℕ)

@@ -44,10 +44,6 @@ pieces-join separator (part ∷ other ∷ more) some lack =
     (pieces-join separator (other ∷ more) (λ none. cc (none))
     (All-tail (Lacks separator) part (other ∷ more) lack))
 
--- a line with its newline
-abbrev with_end : List ℕ → List ℕ
-with_end line = line ++ newline ∷ []
-
 -- one line more in front
 one_line : (line more : List ℕ) → (line ++ newline ∷ []) ++ more ≡ line ++ newline ∷ more
 one_line line more = append_assoc line (newline ∷ []) more

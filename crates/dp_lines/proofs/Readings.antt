@@ -118,12 +118,6 @@ one_reading IsStep limit bytes done others TooLong AllDone first second = absurd
     (omega (arith, first.0, second.0))
 one_reading IsStep limit bytes done others TooLong TooLong first second =
     (first.1 ∙ sym second.1, refl)
-one_reading IsStep limit bytes done others AllDone (BadLine n) first second =
-    absurd (no_stop IsStep (seen limit bytes) others n (subst (AreSteps IsStep) first.1 first.2)
-    second)
-one_reading IsStep limit bytes done others TooLong (BadLine n) first second =
-    absurd (no_stop IsStep (seen limit bytes) others n (subst (AreSteps IsStep) first.1 first.2)
-    second)
 one_reading IsStep limit bytes done others (BadLine n) AllDone first second =
     absurd (no_stop IsStep (seen limit bytes) done n (subst (AreSteps IsStep) second.1 second.2)
     first)
@@ -133,3 +127,6 @@ one_reading IsStep limit bytes done others (BadLine n) TooLong first second =
 one_reading IsStep limit bytes done others (BadLine m) (BadLine n) first second =
     let one = one_stop IsStep (seen limit bytes) done others m n first second in
     (one.0, ap BadLine one.1)
+one_reading IsStep limit bytes done others _ (BadLine n) first second =
+    absurd (no_stop IsStep (seen limit bytes) others n (subst (AreSteps IsStep) first.1 first.2)
+    second)

@@ -35,19 +35,13 @@ sort_of_join false = refl
 sort_of_instruction : (instruction : Instruction) → sort_of (instruction_word instruction) ≡ 1
 unfolding sort_by
 sort_of_instruction (Say m) = refl
-sort_of_instruction Up = refl
-sort_of_instruction Take = refl
 sort_of_instruction (Reset true) = refl
-sort_of_instruction (Reset false) = refl
-sort_of_instruction Leave = refl
-sort_of_instruction Cut = refl
+sort_of_instruction _ = refl
 
 sort_of_canvas : (kind : CanvasKind) → sort_of (canvas_word kind) ≡ 2
 unfolding sort_by
 sort_of_canvas View = refl
-sort_of_canvas Confirmed = refl
-sort_of_canvas Snapshot = refl
-sort_of_canvas Recording = refl
+sort_of_canvas _ = refl
 
 -- words of two sorts are not one
 join_or_instruction : (registered : Bool) (instruction : Instruction)
@@ -91,20 +85,14 @@ registered_back false = refl
 canvas_back : (kind : CanvasKind) → canvas_by (get_or (canvas_word kind) 0 0) ≡ kind
 unfolding canvas_by
 canvas_back View = refl
-canvas_back Confirmed = refl
-canvas_back Snapshot = refl
-canvas_back Recording = refl
+canvas_back _ = refl
 
 instruction_back : (instruction : Instruction) → EndsIn instruction []
     → instruction_by (get_or (instruction_word instruction) 0 0) ≡ instruction
 unfolding instruction_by
 instruction_back (Say m) (word, ends, tells) = absurd (cc (ends))
-instruction_back Up ends = refl
-instruction_back Take ends = refl
 instruction_back (Reset true) ends = refl
-instruction_back (Reset false) ends = refl
-instruction_back Leave ends = refl
-instruction_back Cut ends = refl
+instruction_back _ ends = refl
 
 one_registered : (r s : Bool) → join_word r ≡ join_word s → r ≡ s
 one_registered r s same =
@@ -145,11 +133,7 @@ said_by : (instruction : Instruction) (word : List ℕ) (after : List (List ℕ)
 said_by (Say m) word after (other, ends, tells) =
     let same : other ≡ word = cc in
     (m, refl, subst (λ (w : List ℕ). HexSpells w m) same tells)
-said_by Up word after ends = absurd (cc (ends))
-said_by Take word after ends = absurd (cc (ends))
-said_by (Reset keeps) word after ends = absurd (cc (ends))
-said_by Leave word after ends = absurd (cc (ends))
-said_by Cut word after ends = absurd (cc (ends))
+said_by _ word after ends = absurd (cc (ends))
 
 -- one word and one tail are of one instruction
 one_instruction : OneMessage → (d e : Instruction) (tail : List (List ℕ))

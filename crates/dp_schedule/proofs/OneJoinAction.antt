@@ -39,22 +39,14 @@ alone_back word Chat asks = let is : word ≡ codes "chat" = cc in rw is refl
 no_words : (action : JoinAction) → WordsAsk [] action → ⊥
 no_words (Say m) (hex, parts, spells) = cc (parts)
 no_words (Take count) (digits, parts, number) = cc (parts)
-no_words View asks = cc (asks)
-no_words Confirmed asks = cc (asks)
-no_words Snapshot asks = cc (asks)
-no_words (Reset keeps) asks = cc (asks)
-no_words Chat asks = cc (asks)
+no_words _ asks = cc (asks)
 
 -- nor by three or more
 many_words : (x y z : List ℕ) (more : List (List ℕ)) (action : JoinAction)
     → WordsAsk (x ∷ y ∷ z ∷ more) action → ⊥
 many_words x y z more (Say m) (hex, parts, spells) = cc (parts)
 many_words x y z more (Take count) (digits, parts, number) = cc (parts)
-many_words x y z more View asks = cc (asks)
-many_words x y z more Confirmed asks = cc (asks)
-many_words x y z more Snapshot asks = cc (asks)
-many_words x y z more (Reset keeps) asks = cc (asks)
-many_words x y z more Chat asks = cc (asks)
+many_words x y z more _ asks = cc (asks)
 
 -- two words say a message
 record Says (first second : List ℕ) (action : JoinAction) : Type 0 where
@@ -89,11 +81,7 @@ pair_back first second (Take count) (digits, parts, number) =
       word = cc;
       number = subst (λ (w : List ℕ). IsNumber w count) same number;
     })
-pair_back first second View asks = absurd (cc (asks))
-pair_back first second Confirmed asks = absurd (cc (asks))
-pair_back first second Snapshot asks = absurd (cc (asks))
-pair_back first second (Reset keeps) asks = absurd (cc (asks))
-pair_back first second Chat asks = absurd (cc (asks))
+pair_back first second _ asks = absurd (cc (asks))
 
 say_or_take : (word : List ℕ) → word ≡ codes "say" → word ≡ codes "take" → ⊥
 say_or_take word say take = cc (sym say ∙ take)

@@ -1,14 +1,13 @@
 -- What the words of a line ask for is what the line asks for.
-use Rattle.std.proofs.Common.{◌≡◌, ℕ, List, [], ◌∷◌, Option, Some, None, Result, Ok, Err, slice_get}
-use Rattle.std.proofs.Common.{false, Bor, sym, ◌∙◌, subst}
+use Rattle.std.proofs.Common.{◌≡◌, ℕ, List, [], ◌∷◌, Option, Some, None, Result, slice_get}
+use Rattle.std.proofs.Common.{false, Bor, sym, subst}
 use Rattle.std.specs.Option.{option_copied, is_some}
 use Rattle.std.specs.Prelude.{IfOk, IfSome, IfNone}
 use Rattle.dp_lines.specs.Lines.{words}
 use Rattle.dp_messages.specs.declared.message.Msg.{Msg}
 use Rattle.dp_schedule.specs.declared.action.Action.{Action}
 use Rattle.dp_schedule.specs.declared.action.Action.TheVariants.{Join, Act, Show}
-use Rattle.dp_schedule.specs.declared.action.Instruction.TheVariants.{Say, Up, Take, Reset}
-use Rattle.dp_schedule.specs.declared.action.Instruction.TheVariants.{Leave, Cut}
+use Rattle.dp_schedule.specs.declared.action.Instruction.TheVariants.{Say}
 use Rattle.dp_schedule.specs.LineGrammar.{Parses, WordsParse, HexSpells}
 
 -- a list with two items and no third
@@ -60,16 +59,7 @@ third_spells first second third (Act client (Say m)) (tail, names, (word, ends, 
     let parts = names.parts in
     let same : word ≡ third = cc in
     (m, subst (λ (w : List ℕ). HexSpells w m) same tells)
-third_spells first second third (Act client Up) (tail, names, ends) = let parts = names.parts in
-    absurd (cc (parts, ends))
-third_spells first second third (Act client Take) (tail, names, ends) = let parts = names.parts in
-    absurd (cc (parts, ends))
-third_spells first second third (Act client (Reset keeps)) (tail, names, ends) =
-    let parts = names.parts in
-    absurd (cc (parts, ends))
-third_spells first second third (Act client Leave) (tail, names, ends) = let parts = names.parts in
-    absurd (cc (parts, ends))
-third_spells first second third (Act client Cut) (tail, names, ends) = let parts = names.parts in
-    absurd (cc (parts, ends))
 third_spells first second third (Show client kind) names = let parts = names.parts in absurd
     (cc (parts))
+third_spells first second third _ (tail, names, ends) =
+    let parts = names.parts in absurd (cc (parts, ends))

@@ -9,12 +9,12 @@ use Rattle.std.specs.Io.KnownBytes.{Consumes, Keeps, IsAtEnd}
 use Rattle.dp_io.specs.Pieces.{TookPieces}
 use Rattle.dp_io.proofs.Pieces.{all_taken, cut_short, kept_taken, last_taken, more_taken}
 use Rattle.dp_io.proofs.Pieces.{none_taken, nothing_taken, parts_of}
+use Rattle.dp_lines.proofs.Giving.{lines_from_parts}
 use Rattle.dp_lines.proofs.TakenParts.{took_all, took_last}
 use Rattle.dp_lines.specs.declared.line.Line.{Line}
 use Rattle.dp_lines.specs.Ends.{AreSteps, seen}
 use Rattle.dp_lines.specs.Held.{Held, IsLeft, NextIsLong, ended_from, lines_from}
-use Rattle.dp_lines.specs.Lines.{ended, open_rest, if_any, is_overlong, line_limit}
-use Rattle.dp_lines.specs.Lines.{numbered}
+use Rattle.dp_lines.specs.Lines.{ended, open_rest, if_any, is_overlong, line_limit, numbered}
 use Rattle.dp_lines.specs.TakenParts.{TookWithin}
 use Rattle.dp_script.specs.declared.machine.ScriptEnd.{ScriptEnd}
 use Rattle.dp_script.specs.declared.machine.ScriptEnd.TheVariants.{Done, BadLine, ReadFault, Long}
@@ -23,7 +23,6 @@ use Rattle.dp_script.specs.Ends.{FaultMatchesInput, IsOfLines}
 use Rattle.dp_script.specs.Leaves.{HoldsNoCause, HoldsLines, ScriptLeaves}
 use Rattle.dp_script.specs.Progress.{HasDone, HasRead, IsReading, IsEnding, StopsIn}
 use Rattle.dp_script.proofs.Called.{SeenCut, SeenWhole}
-use Rattle.dp_script.proofs.Lines.{lines_from_parts}
 
 -- ---- at the start
 
@@ -227,11 +226,8 @@ told_of_stop : {X E : Type 0} (S : List Line → Line → Type 0)
     (limit : ℕ) (bytes : List ℕ) (left : Option (List ℕ)) (start now : X) (end : ScriptEnd E)
     → StopsIn S D F (seen limit bytes) start now end
     → ScriptLeaves S D F limit (Some bytes) left start now end
-told_of_stop S D F limit bytes left start now Done stops = absurd stops
 told_of_stop S D F limit bytes left start now (BadLine n) (done, stops, does) =
     (done, does, stops)
-told_of_stop S D F limit bytes left start now ReadFault stops = absurd stops
-told_of_stop S D F limit bytes left start now Long stops = absurd stops
 told_of_stop S D F limit bytes left start now Memory some = (
   some.done,
   some.has.does,
@@ -243,18 +239,17 @@ told_of_stop S D F limit bytes left start now (Ended end) at = (
   at.ends,
   record { after = at.after; parts = at.parts; steps = at.steps; fits = at.fits },
 )
+told_of_stop S D F limit bytes left start now _ stops = absurd stops
 
 -- of one whose bytes aren't
 untold_of_stop : {X E : Type 0} (S : List Line → Line → Type 0)
     (D : X → List Line → X → Type 0) (F : X → List Line → Line → X → E → Type 0)
     (limit : ℕ) (lines : List Line) (left : Option (List ℕ)) (start now : X) (end : ScriptEnd E)
     → StopsIn S D F lines start now end → ScriptLeaves S D F limit None left start now end
-untold_of_stop S D F limit lines left start now Done stops = absurd stops
 untold_of_stop S D F limit lines left start now (BadLine n) (done, stops, does) = (done, does, tt)
-untold_of_stop S D F limit lines left start now ReadFault stops = absurd stops
-untold_of_stop S D F limit lines left start now Long stops = absurd stops
 untold_of_stop S D F limit lines left start now Memory some = (some.done, some.has.does, tt)
 untold_of_stop S D F limit lines left start now (Ended end) at = (at.done, at.line, at.ends, tt)
+untold_of_stop S D F limit lines left start now _ stops = absurd stops
 
 -- the run stops at a line that is seen of the bytes that count, with whatever after them
 pub piece_stops : {X E : Type 0} (S : List Line → Line → Type 0)
@@ -382,9 +377,5 @@ rest_stops S D F law limit (Some bytes) left rest none held start old now end is
 -- a stop at a line blames no input
 pub stop_fault : {E : Type 0} (before now : ℕ) (end : ScriptEnd E) → IsOfLines end → now ≡ before
     → FaultMatchesInput before now end
-stop_fault before now Done stop kept = kept
-stop_fault before now (BadLine n) stop kept = kept
 stop_fault before now ReadFault stop kept = absurd stop
-stop_fault before now Long stop kept = kept
-stop_fault before now Memory stop kept = kept
-stop_fault before now (Ended end) stop kept = kept
+stop_fault before now _ stop kept = kept

@@ -1,4 +1,3 @@
 pub mod Called
-pub mod Lines
 pub mod Reading
 pub mod Leaving

@@ -7,8 +7,7 @@ use Rattle.dp_lines.specs.Ends.{AreSteps, seen}
 use Rattle.dp_lines.specs.Held.{Held, NextIsLong, ended_from, lines_from}
 use Rattle.dp_lines.specs.Lines.{ended, open_rest}
 use Rattle.dp_script.specs.declared.machine.ScriptEnd.{ScriptEnd}
-use Rattle.dp_script.specs.declared.machine.ScriptEnd.TheVariants.{Done, BadLine, ReadFault, Long}
-use Rattle.dp_script.specs.declared.machine.ScriptEnd.TheVariants.{Memory, Ended}
+use Rattle.dp_script.specs.declared.machine.ScriptEnd.TheVariants.{BadLine, Memory, Ended}
 use Rattle.dp_script.specs.Progress.{HasDone, IsReading, IsEnding, StopsAfter, StopsIn}
 use Rattle.dp_script.proofs.Called.{LeftFed, LeftGiven, SeenGiven, SeenLong}
 
@@ -20,15 +19,11 @@ stops_in : {X E : Type 0} (S : List Line → Line → Type 0) (D : X → List Li
     (start now : X) (end : ScriptEnd E)
     → lines ≡ done ++ line ∷ after → AreSteps S done
     → StopsAfter S D F done line start now end → StopsIn S D F lines start now end
-stops_in S D F lines done after line start now Done whole steps stops = absurd stops
 stops_in S D F lines done after line start now (BadLine n) whole steps (number, bad, does) = (
   done,
   record { line = line; after = after; next = whole; number = number; steps = steps; bad = bad },
   does,
 )
-stops_in S D F lines done after line start now ReadFault whole steps stops = absurd stops
-stops_in S D F lines done after line start now Long whole steps stops = absurd stops
-stops_in S D F lines done after line start now Memory whole steps stops = absurd stops
 stops_in S D F lines done after line start now (Ended end) whole steps (fits, ends) = record {
   done = done;
   line = line;
@@ -38,6 +33,7 @@ stops_in S D F lines done after line start now (Ended end) whole steps (fits, en
   fits = fits;
   ends = ends;
 }
+stops_in S D F lines done after line start now _ whole steps stops = absurd stops
 
 -- ---- while more is fed
 

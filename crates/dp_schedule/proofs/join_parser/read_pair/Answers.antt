@@ -1,4 +1,4 @@
-use Rattle.std.proofs.Common.{◌≡◌, true, codes}
+use Rattle.std.proofs.Common.{◌≡◌, true}
 use Rattle.dp_schedule.proofs.OneJoinAction.{pair_none}
 use Rattle.dp_schedule.proofs.join_parser.read_pair.Goals as goal
 

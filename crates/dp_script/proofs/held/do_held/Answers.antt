@@ -1,7 +1,7 @@
-use Rattle.std.proofs.Common.{Err, ap, ◌∙◌}
+use Rattle.std.proofs.Common.{Err, ap, sym, ◌∙◌}
 use Rattle.std.proofs.lemmas.Result.{err_from_is_err_and}
+use Rattle.dp_lines.proofs.Giving.{long_kept}
 use Rattle.dp_script.specs.Moments.{moment}
-use Rattle.dp_script.proofs.Lines.{long_as_before}
 use Rattle.dp_script.proofs.Reading.{reading_further, reading_stops, reading_long, reading_full}
 use Rattle.dp_script.proofs.held.do_held.Goals as goal
 
@@ -39,8 +39,12 @@ pub returns-in-Ok-None-clause-short : goal.returns-in-Ok-None-clause-short
 returns-in-Ok-None-clause-short g c = λ n long.
     let e = c.in-Ok-None.ensures in
     let lines = rw c.in-Ok-None.field-0-is at e.lines in
-    let answer = (e.long n).1 (long_as_before c.held.lines c.next_line.new.self n lines e.count
-    e.rest long) in
+    let answer = (e.long n).1 (long_kept c.held.lines c.next_line.new.self n (record {
+      lines = sym lines;
+      count = e.count;
+      rest = e.rest;
+      fed = e.fed;
+    }) long) in
     cc (answer)
 
 pub returns-in-Err-Long-clause-err : goal.returns-in-Err-Long-clause-err
