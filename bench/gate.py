@@ -2,13 +2,15 @@
 """bench/gate.py run LOG [CMD ..]   runs the gate (`rt ci --anew`, or CMD) and writes to LOG what each of
                                  its processes took. An older kit, as rattle-kit-13b, has no --anew and
                                  proves all in each run: there CMD is `rt ci`
+bench/gate.py watch PID LOG      the same of a gate that runs already: of the process PID, until it ends
 bench/gate.py table LOG ..       prints the seconds of each crate, as a table for docs/
 bench/gate.py above CRATE LOG ..  prints what a change of this crate's proofs has proved again
 
 The gate prints no times. So each second the processes below it are read from /proc: the processor
 time of each prover with the copies of itself that it forked, and the most memory that one of them
-held. What a process did after its last sample, up to a second, isn't counted. Give the name of the
-machine and the commit beside the table."""
+held. What a process did after its last sample, up to a second, isn't counted. The time of clang is
+in that of the process which runs it, and is told once more. Give the name of the machine and the
+commit beside the table."""
 import os
 import re
 import subprocess
@@ -17,7 +19,7 @@ import time
 
 TICK = os.sysconf("SC_CLK_TCK")
 TOOLS = ("rattle", "rattle-link", "rattle-test", "clang", "ld", "lld", "ld.lld")
-KINDS = ("proof", "tests", "seed", "edits", "other")
+KINDS = ("proof", "compiled", "tests", "seed", "edits", "other")
 
 
 def processes():
@@ -59,6 +61,8 @@ def task_of(pid, name):
     seed = next((it for it in words if "rt-edits-" in it), "")
     if "/rt-edit-" in where:
         return (crate, "seed" if seed.endswith("/seed") else "edits")
+    if "--crate-checked" in words:
+        return (crate, "compiled")
     return (crate, "tests" if "--test" in words else "proof")
 
 
@@ -77,6 +81,12 @@ def sample(top, tasks):
             time_of, peak = time_of + took, max(peak, held)
         return time_of, peak
 
+    def note(key, task, pid):
+        """Adds what a process took to its task."""
+        took, peak = whole(pid)
+        old = tasks.setdefault(key, [*task, time.time(), 0, 0, 0])
+        tasks[key] = [*old[:3], time.time(), max(old[4], took), max(old[5], peak)]
+
     def walk(pid):
         for it in children.get(pid, []):
             _, name, began, _ = all_of[it]
@@ -87,35 +97,54 @@ def sample(top, tasks):
                     if task is None:
                         continue
                     tasks[key] = [*task, time.time(), 0, 0, 0]
-                took, peak = whole(it)
-                old = tasks[key]
-                tasks[key] = [*old[:3], time.time(), max(old[4], took), max(old[5], peak)]
+                note(key, tasks[key][:2], it)
+                for below in children.get(it, []):
+                    if all_of[below][1] == "clang":
+                        note((below, all_of[below][2]), (tasks[key][0], "clang"), below)
             else:
                 walk(it)
 
     walk(top)
 
 
-def run(log, words):
-    """Runs the gate, and writes a line for each process: crate, kind, begin, end, seconds, MB."""
+def follow(top, name, log, is_over):
+    """Samples what runs below the process `top` until `is_over` says so, and writes a line for each
+    process: crate, kind, begin, end, seconds, MB."""
     began, tasks = time.time(), {}
 
     def write(status):
         with open(log, "w", encoding="utf-8") as out:
-            out.write(f"# {' '.join(words)}: {time.time() - began:.0f} s, {status}\n")
+            out.write(f"# {name}: {time.time() - began:.0f} s, {status}\n")
             for crate, kind, begin, end, took, peak in tasks.values():
                 out.write(f"{crate} {kind} {begin - began:.0f} {end - began:.0f} {took:.1f} {peak}\n")
 
+    last = began
+    while is_over() is None:
+        sample(top, tasks)
+        if time.time() > last + 30:
+            last = time.time()
+            write("not ended")
+        time.sleep(1)
+    write(f"status {is_over()}")
+
+
+def run(log, words):
+    """Runs the gate, and follows it."""
     with subprocess.Popen(words) as gate:
-        last = began
-        while gate.poll() is None:
-            sample(gate.pid, tasks)
-            if time.time() > last + 30:
-                last = time.time()
-                write("not ended")
-            time.sleep(1)
-    write(f"status {gate.returncode}")
+        follow(gate.pid, " ".join(words), log, gate.poll)
     return gate.returncode
+
+
+def watch(pid, log):
+    """Follows a gate that runs already. Its status isn't seen."""
+    began = processes()[pid][2]
+
+    def is_over():
+        """Whether the process has ended: no other one has its number and its beginning."""
+        now = processes().get(pid)
+        return None if now and now[2] == began else "not seen"
+
+    follow(pid, f"process {pid}", log, is_over)
 
 
 def rows_of(logs):
@@ -131,7 +160,7 @@ def rows_of(logs):
             number, seconds, most = found.get((crate, kind), (0, 0.0, 0))
             found[crate, kind] = number + 1, seconds + float(took), max(most, int(peak))
         for (crate, kind), told in found.items():
-            rows.setdefault(crate, {it: (0, 0.0, 0) for it in KINDS})[kind] = told
+            rows.setdefault(crate, {it: (0, 0.0, 0) for it in (*KINDS, "clang")})[kind] = told
     return rows
 
 
@@ -150,18 +179,20 @@ def seconds_of(row):
 def table(logs):
     """Prints the seconds of a processor of each crate, by what was done."""
     rows = rows_of(logs)
-    print("| crate | proof, s | tests, s | proof again, s | edits, s (n) | all, s | GB |")
-    print("|---|---:|---:|---:|---:|---:|---:|")
+    heads = ("proof", "compiled", "tests", "of it clang", "proof again")
+    print(f"| crate | {', s | '.join(heads)}, s | edits, s (n) | all, s | GB |")
+    print("|---|---:|---:|---:|---:|---:|---:|---:|---:|")
     show = lambda it: f"{it:.0f}" if it >= 0.5 else "-"
     names = [it for it in rows if it in listed()]
     for crate in sorted(names, key=lambda it: -seconds_of(rows[it])):
         row = rows[crate]
         edits = f"{show(row['edits'][1])} ({row['edits'][0]})" if row["edits"][0] else "-"
-        cells = [show(row[it][1]) for it in ("proof", "tests", "seed")]
+        cells = [show(row[it][1]) for it in ("proof", "compiled", "tests", "clang", "seed")]
         print(f"| {crate} | {' | '.join(cells)} | {edits} | {seconds_of(row):.0f} | {max(it[2] for it in row.values()) / 1024:.1f} |")
     sums = {kind: sum(rows[it][kind][1] for it in names) for kind in KINDS}
-    cells = [show(sums[it]) for it in ("proof", "tests", "seed", "edits")]
-    print(f"| all | {' | '.join(cells)} | {sum(sums.values()):.0f} | |")
+    sums["clang"] = sum(rows[it]["clang"][1] for it in names)
+    cells = [show(sums[it]) for it in ("proof", "compiled", "tests", "clang", "seed", "edits")]
+    print(f"| all | {' | '.join(cells)} | {sum(sums[it] for it in KINDS):.0f} | |")
 
 
 def above(crate, logs):
@@ -176,6 +207,8 @@ def above(crate, logs):
 if __name__ == "__main__":
     if len(sys.argv) >= 3 and sys.argv[1] == "run":
         sys.exit(run(sys.argv[2], sys.argv[3:] or ["rt", "ci", "--anew"]))
+    if len(sys.argv) == 4 and sys.argv[1] == "watch":
+        sys.exit(watch(int(sys.argv[2]), sys.argv[3]))
     if len(sys.argv) >= 3 and sys.argv[1] == "table":
         sys.exit(table(sys.argv[2:]))
     if len(sys.argv) >= 4 and sys.argv[1] == "above":

@@ -3,7 +3,7 @@
 ghost use Rattle.std.specs.Prelude.{◌≡◌, IfOk, None};
 
 use dp_keeper::{KeepError, Keeper, Row, RowBytes, Rows};
-use sqlite::{Connection, Error, ErrorCode, File, FileStore, Statement, params};
+use sqlite::{Alter, Connection, Error, ErrorCode, File, FileStore, Statement, params};
 use std::alloc::Global;
 use std::marker::Model;
 
@@ -46,18 +46,49 @@ fn refusal(error: Error) -> KeepError {
     }
 }
 
-/// Opens the file, or makes it, with the table.
-fn open(rt: &HostRuntime, path: &str) -> Result<Connection<FileStore<File>>, Error> {
-    let mut conn = Connection::open(rt, path)?;
-    conn.execute_batch(TABLE)?;
-    Ok(conn)
+/// Opens the file, or makes it. No clause says more, so that no caller's proof carries what sqlite
+/// says. So it is with the calls below. They are for any store, as it costs each call of them much
+/// to show that the files are one.
+fn connect(rt: &HostRuntime, path: &str) -> Result<Connection<FileStore<File>>, Error> {
+    Connection::open(rt, path)
 }
 
-/// The statements that add a row and read rows.
-fn statements(conn: &mut Connection<FileStore<File>>) -> Result<(Statement, Statement), Error> {
-    let insert = conn.prepare(INSERT)?;
-    let select = conn.prepare(SELECT)?;
+/// Makes the table, if there is none.
+fn make_table<S: Alter>(conn: &mut Connection<S>) -> Result<(), Error> {
+    conn.execute_batch(TABLE)
+}
+
+/// A statement of this text.
+fn prepare<S: Alter>(conn: &mut Connection<S>, text: &str) -> Result<Statement, Error> {
+    conn.prepare(text)
+}
+
+/// Makes the table. Gives the statements that add a row and read rows.
+fn set_up<S: Alter>(conn: &mut Connection<S>) -> Result<(Statement, Statement), Error> {
+    make_table(conn)?;
+    let insert = prepare(conn, INSERT)?;
+    let select = prepare(conn, SELECT)?;
     Ok((insert, select))
+}
+
+/// Adds a row by the statement that adds one.
+fn add<S: Alter>(
+    statement: &Statement,
+    conn: &mut Connection<S>,
+    n: i64,
+    bytes: &[u8],
+) -> Result<usize, Error> {
+    statement.execute(conn, params![n, bytes])
+}
+
+/// The rows that the statement reads.
+fn find<S: Alter>(
+    statement: &Statement,
+    conn: &mut Connection<S>,
+    from: i64,
+    max: u32,
+) -> Result<Vec<sqlite::Row>, Error> {
+    statement.query_all(conn, params![from, max])
 }
 
 /// A row of the table. A number below 0 is no row's, and is read as the greatest number.
@@ -89,8 +120,7 @@ impl SqlKeeper {
     pub fn new(rt: &HostRuntime, path: &str) -> Result<SqlKeeper, KeepError>
         ensures { IfOk result (λ keeper. keeper ≡ record { puts = 0; readings = 0 }) }
     {
-        let opened = open(rt, path);
-        match opened {
+        match connect(rt, path) {
             Ok(conn) => SqlKeeper::over(rt.alloc(), conn),
             Err(error) => Err(refusal(error)),
         }
@@ -101,7 +131,7 @@ impl SqlKeeper {
         ensures { IfOk result (λ keeper. keeper ≡ record { puts = 0; readings = 0 }) }
     {
         let mut conn = conn;
-        match statements(&mut conn) {
+        match set_up(&mut conn) {
             Ok((insert, select)) => Ok(SqlKeeper {
                 conn,
                 insert,
@@ -121,9 +151,7 @@ impl SqlKeeper {
         let Ok(n) = i64::try_from(row.n) else {
             return Err(KeepError::Failed);
         };
-        let added = self
-            .insert
-            .execute(&mut self.conn, params![n, row.bytes.as_slice()]);
+        let added = add(&self.insert, &mut self.conn, n, row.bytes.as_slice());
         match added {
             Ok(_) => Ok(()),
             Err(error) => Err(refusal(error)),
@@ -135,7 +163,7 @@ impl SqlKeeper {
         ensures { self.new ≡ self.old }
     {
         let alloc = self.alloc;
-        let found = self.select.query_all(&mut self.conn, params![from, max]);
+        let found = find(&self.select, &mut self.conn, from, max);
         match found {
             Ok(found) => rows_of(alloc, &found).map_err(|error| refusal(error)),
             Err(error) => Err(refusal(error)),
