@@ -100,6 +100,18 @@ impl ReportLine {
     }
 }
 
+/// How many bytes a line mostly has at most.
+const ROOM: usize = 32;
+
+/// The beginning of a line, with room for what follows.
+fn line_of(alloc: Global, word: &[u8]) -> Result<Vec<u8>, AllocError>
+    ensures { IfOk result (λ line. line.items ≡ word.now) }
+{
+    let mut line = Vec::with_capacity(alloc, ROOM)?;
+    line.extend_from_slice(word)?;
+    Ok(line)
+}
+
 /// The line of a user who has joined.
 fn line_of_join(
     alloc: Global,
@@ -110,7 +122,7 @@ fn line_of_join(
 ) -> Result<Vec<u8>, AllocError>
     ensures { IfOk result (λ text. text.items ≡ text_of (ReportLine.Joined client user epoch at)) }
 {
-    let mut line = Vec::from_slice(alloc, b"joined ")?;
+    let mut line = line_of(alloc, b"joined ")?;
     put_number(client, &mut line)?;
     line.extend_from_slice(b" user ")?;
     put_number(u32::from(user), &mut line)?;
@@ -124,7 +136,7 @@ fn line_of_count(alloc: Global, word: &[u8], count: usize) -> Result<Vec<u8>, Al
     ensures { IfOk result (λ text. text.items ≡ word.now ++ decimal count ++ codes "\n") }
 {
     let mut digits = Buffer::new();
-    let mut line = Vec::from_slice(alloc, word)?;
+    let mut line = line_of(alloc, word)?;
     line.extend_from_slice(digits.format(count).as_bytes())?;
     line.extend_from_slice(b"\n")?;
     Ok(line)
@@ -134,7 +146,7 @@ fn line_of_count(alloc: Global, word: &[u8], count: usize) -> Result<Vec<u8>, Al
 fn line_of_place(alloc: Global, word: &[u8], epoch: u32, at: u32) -> Result<Vec<u8>, AllocError>
     ensures { IfOk result (λ text. text.items ≡ placed_line word.now epoch at) }
 {
-    let mut line = Vec::from_slice(alloc, word)?;
+    let mut line = line_of(alloc, word)?;
     put_place(epoch, at, &mut line)?;
     Ok(line)
 }
