@@ -38,6 +38,10 @@ use std::thread::Threads;
 /// How many operations may be added for each tile of the layer before all are painted.
 const WAITING: usize = 1024;
 
+/// How many operations more may be added for a layer that workers paint. So they are started
+/// seldom, which costs each time what they paint in a fraction of a millisecond.
+const MORE: usize = 262144;
+
 /// How many colours the images that wait may have for each tile of the layer before all are
 /// painted: half as many as it has pixels.
 const COLORS: usize = 2048;
@@ -63,6 +67,7 @@ pub struct DeferredGrid {
     images: Vec<Draw>,
     colors: usize,
     lists: TileLists,
+    more: usize,
 }
 
 impl Model for DeferredGrid {
@@ -136,6 +141,7 @@ impl DeferredGrid {
             images: Vec::new(alloc),
             colors: 0,
             lists: TileLists::new(alloc, 0),
+            more: 0,
         })
     }
 
@@ -260,7 +266,8 @@ impl DeferredGrid {
         self.grid.known();
         let (cols, rows) = (self.grid.cols(), self.grid.rows());
         let count = cols as usize * rows as usize;
-        self.lists.added() >= count * WAITING / part || self.colors >= count * COLORS / part
+        let most = (count * WAITING).saturating_add(self.more);
+        self.lists.added() >= most / part || self.colors >= count * COLORS / part
     }
 
     /// Whether so much waits that all of it is painted before the next command waits.
@@ -273,7 +280,7 @@ impl DeferredGrid {
         self.has_part(2)
     }
 
-    /// Paints all that waits, by workers.
+    /// Paints all that waits, by workers. From then on more may wait.
     ///
     /// # Errors
     ///
@@ -297,6 +304,7 @@ impl DeferredGrid {
         self.lists = TileLists::new(self.grid.alloc(), 0);
         self.images = Vec::new(self.grid.alloc());
         self.colors = 0;
+        self.more = MORE;
         Ok(())
     }
 
@@ -404,6 +412,7 @@ impl DeferredGrid {
             images: Vec::new(grid.alloc()),
             colors: 0,
             lists: TileLists::new(grid.alloc(), 0),
+            more: self.more,
         })
     }
 
@@ -418,6 +427,7 @@ impl DeferredGrid {
             images: copied(&self.images, self.grid.alloc())?,
             colors: self.colors,
             lists: self.lists.share()?,
+            more: self.more,
         })
     }
 

@@ -19,7 +19,7 @@ use std::sync::ledger::Ledger;
 use std::thread::Threads;
 
 /// How many entries are shown between two looks at what waits.
-const LOOK: u32 = 64;
+const LOOK: u32 = 1024;
 
 /// Which entries of a recording are shown, and by how many workers.
 #[derive(Drop)]
