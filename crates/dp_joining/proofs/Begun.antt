@@ -5,27 +5,22 @@ use Rattle.std.proofs.Common.{length-append}
 use Rattle.std.specs.Prelude.{Option, None, Some, IfSome}
 use Rattle.std.specs.List.{fold}
 use Rattle.std.specs.Option.{option_map_or}
-use Rattle.std.specs.Io.KnownBytes.{Appends}
 use Rattle.std.proofs.Math.Seq.{take-append-add}
 use Rattle.std.proofs.lemmas.Bool.{cases_lt}
 use Rattle.std.proofs.lemmas.List.{append-nil, drop-append-le, take-append-le}
 use Rattle.std.proofs.lemmas.List.Sums.{fold-append}
-use Rattle.dp_client.specs.Client.{State, welcomed}
 use Rattle.dp_io.specs.Streams.{GrowsByPrefix}
 use Rattle.dp_io.proofs.Prefixes.{grows_whole, grows_within}
 use Rattle.dp_lines.specs.declared.line.Line.{Line}
 use Rattle.dp_lines.specs.declared.run_end.RunEnd.{RunEnd}
 use Rattle.dp_lines.specs.declared.run_end.RunEnd.TheVariants as run
-use Rattle.dp_lines.specs.Ends.{AreSteps, LinesComeTo, LinesEnd, seen}
+use Rattle.dp_lines.specs.Ends.{AreSteps, LinesEnd, seen}
 use Rattle.dp_lines.specs.Ends as ends
 use Rattle.dp_lines.specs.Held.{IsLeft}
 use Rattle.dp_lines.specs.Lines.{Lacks, ended, newline, numbered, open_rest}
 use Rattle.dp_lines.proofs.Seen.{given_seen}
 use Rattle.dp_msg_draw.specs.declared.draw.Draw.{Draw}
-use Rattle.dp_msg_meta.specs.declared.message.Control.TheVariants as control
 use Rattle.dp_messages.specs.declared.message.Entry.{Entry}
-use Rattle.dp_messages.specs.declared.message.Msg.{Msg}
-use Rattle.dp_messages.specs.declared.message.Msg.TheVariants as msg
 use Rattle.dp_pixels.specs.Feet.{reach}
 use Rattle.dp_schedule.specs.declared.join_action.JoinAction.{JoinAction}
 use Rattle.dp_schedule.specs.declared.join_action.JoinAction.TheVariants.{Say, Take, View}
@@ -38,13 +33,15 @@ use Rattle.dp_script.specs.Limits.{lines_limit}
 use Rattle.dp_joining.specs.declared.stops.LinkCause.{LinkCause}
 use Rattle.dp_joining.specs.Joining.{Joining, Progress, Goes, Waits, acted, after_line, along}
 use Rattle.dp_joining.specs.Joining.{asked_by, came_to, caller, farewell_bytes, greeted, joined}
-use Rattle.dp_joining.specs.Joining.{newcomer, takeable, took_entry}
+use Rattle.dp_joining.specs.Joining.{newcomer, printed, takeable, took_entry}
 use Rattle.dp_joining.specs.Leaves.{BeginsDue, GrowsTowards, IsParting, JoinLeaves, Traffic}
 use Rattle.dp_joining.specs.Leaves.{WhereKnown, WritesAll, WritesPart, WritesTaken}
 use Rattle.dp_joining.specs.Outcomes.{AllAsk, BeginsWith, EndsByLink, EndsByScript}
 use Rattle.dp_joining.specs.Outcomes.{IsJoinStep, JoinComesTo, JoinOutcome, script_outcome}
 use Rattle.dp_joining.specs.Steps.{DrawsFew}
 use Rattle.dp_joining.proofs.Along.{along_enough, along_few}
+use Rattle.dp_joining.proofs.Greeted.{greets}
+use Rattle.dp_joining.proofs.Leaving.{Writes}
 use Rattle.dp_joining.proofs.OneOutcome.{AllLaws, IsClosed, IsEnded, asked_alike, ends_by}
 use Rattle.dp_joining.proofs.OneOutcome.{first_within, lists_alike, one_outcome}
 use Rattle.dp_joining.proofs.Prefixes.{IsFirstOf, begin_alike, within_all}
@@ -101,12 +98,18 @@ goes_twice j k l a b = record {
 }
 
 takes_on : (j : Joining) (e : Entry) → GoesOn j (took_entry j e)
-takes_on j e =
-    record {
-      text = first_then j.text _;
-      written = first_then j.written _;
-      due = first_then j.due _;
-    }
+takes_on j e = record {
+  text = first_then j.text _;
+  written = first_then j.written _;
+  due = first_then j.due _;
+}
+
+prints_on : (j : Joining) (text : List ℕ) → GoesOn j (printed j text)
+prints_on j text = record {
+  text = first_then j.text text;
+  written = first_self j.written;
+  due = first_self j.due;
+}
 
 folds_on : (es : List Entry) (j : Joining) → GoesOn j (fold took_entry j es)
 folds_on [] j = stays j
@@ -115,38 +118,21 @@ folds_on (e ∷ es) j =
     (folds_on es (took_entry j e))
 
 acts_on : (action : JoinAction) (j : Joining) → GoesOn j (acted action j)
-acts_on (Say m) j =
-    record {
-      text = first_then j.text _;
-      written = first_then j.written _;
-      due = first_then j.due _;
-    }
+acts_on (Say m) j = record {
+  text = first_then j.text _;
+  written = first_then j.written _;
+  due = first_then j.due _;
+}
 acts_on (Take count) j = stays j
-acts_on View j = record {
-  text = first_then j.text _;
-  written = first_self j.written;
-  due = first_self j.due;
-}
-acts_on Confirmed j = record {
-  text = first_then j.text _;
-  written = first_self j.written;
-  due = first_self j.due;
-}
-acts_on Snapshot j = record {
-  text = first_then j.text _;
-  written = first_self j.written;
-  due = first_self j.due;
-}
+acts_on View j = prints_on j _
+acts_on Confirmed j = prints_on j _
+acts_on Snapshot j = prints_on j _
 acts_on (Reset keeps) j = record {
   text = first_then j.text _;
   written = first_then j.written _;
   due = first_self j.due;
 }
-acts_on Chat j = record {
-  text = first_then j.text _;
-  written = first_self j.written;
-  due = first_self j.due;
-}
+acts_on Chat j = prints_on j _
 
 line_on : (action : JoinAction) (es : List Entry) (j : Joining) → GoesOn j (after_line action es j)
 line_on action es j =
@@ -231,25 +217,6 @@ along_on (action ∷ actions) more coming extra j =
 
 -- ---- from the Hello on
 
--- a Welcome makes a newcomer, and no other message greets
-greets : (name : List ℕ) (m : Msg)
-    → (greeted name m ≡ None) ⊎ ((client : State) × (greeted name m ≡ Some (newcomer client name)))
-greets name (msg.Control (control.Welcome version user epoch at)) =
-    inr (welcomed user epoch at, refl)
-greets name (msg.Control (control.Hello title)) = inl refl
-greets name (msg.Control (control.Disconnect reason)) = inl refl
-greets name (msg.Control (control.Ping pong)) = inl refl
-greets name (msg.Control (control.Ack epoch)) = inl refl
-greets name (msg.Control control.ResetBegin) = inl refl
-greets name (msg.Control control.ResetEnd) = inl refl
-greets name (msg.Control (control.ResetFrom at)) = inl refl
-greets name (msg.Meta m) = inl refl
-greets name (msg.Part op) = inl refl
-greets name msg.Point = inl refl
-greets name (msg.Undo target redo) = inl refl
-greets name (msg.Draw op) = inl refl
-greets name (msg.Opaque kind body) = inl refl
-
 -- how far a client goes that was greeted so
 from : List ℕ → List JoinAction → List Entry → Option Joining → Progress
 from name actions coming o = option_map_or (λ j. along actions coming j) o (Waits (caller name))
@@ -258,20 +225,21 @@ calls_on : (name : List ℕ) (actions : List JoinAction) (ds : List Entry)
     → GoesOn (caller name) (came_to (joined name actions ds))
 unfolding from
 calls_on name actions [] = stays (caller name)
-calls_on name actions (d ∷ ds) = elim (greets name d.msg) [
-  | inl none ↦ subst (λ (o : Option Joining). GoesOn (caller name)
-      (came_to (from name actions (takeable ds) o))) (sym none) (stays (caller name))
-  | inr (client, is) ↦
+calls_on name actions (d ∷ ds) = elim (greets d.msg) [
+  | inl greet ↦
+      let client = greet.client in
       let first : GoesOn (caller name) (newcomer client name) = record {
         text = first_self [];
         written = first_self _;
         due = first_self [];
       } in
       subst (λ (o : Option Joining). GoesOn (caller name)
-      (came_to (from name actions (takeable ds) o))) (sym is)
+      (came_to (from name actions (takeable ds) o))) (sym (greet.makes name))
       (goes_twice (caller name) (newcomer client name)
       (came_to (along actions (takeable ds) (newcomer client name))) first
       (lines_on actions (takeable ds) (newcomer client name)))
+  | inr none ↦ subst (λ (o : Option Joining). GoesOn (caller name)
+      (came_to (from name actions (takeable ds) o))) (sym (none name)) (stays (caller name))
 ]
 
 greeted_on : (name : List ℕ) (actions more : List JoinAction) (es extra : List Entry)
@@ -446,10 +414,7 @@ module _ (laws : AllLaws) (name link : List ℕ) where
       → BeginsDue name t input link
   part_due t input x outcome comes = part_by t input x outcome comes x.is_parting
 
-  all_due : (t : Traffic) (input : List ℕ) (end : RunEnd)
-      → (outcome : JoinOutcome) × JoinComesTo name input link outcome × (outcome.end ≡ end)
-      × Appends t.print_old t.print_now outcome.text × Appends t.sent_old t.sent_now outcome.written
-      × DrawsFew t.counters outcome.due
+  all_due : (t : Traffic) (input : List ℕ) (end : RunEnd) → Writes name t end input link
       → BeginsDue name t input link
   all_due t input end (other, comes, is, text, written, few) outcome due =
       subst (GrowsTowards t)
@@ -538,10 +503,6 @@ module _ (laws : AllLaws) (open_ : OpenRest) (name : List ℕ) (t : Traffic) whe
   -- however the run ends
   pub begun_due : (end : RunEnd) → JoinLeaves name t end → WhereKnown t (BeginsDue name t)
   begun_due run.Done h = all_begun run.Done h.1
-  begun_due (run.BadLine n) h = all_begun (run.BadLine n) h
-  begun_due run.Long h = all_begun run.Long h
-  begun_due run.Closed h = all_begun run.Closed h
-  begun_due (run.BadMessage n) h = all_begun (run.BadMessage n) h
   begun_due run.ReadFault h =
       part_begun (where_both t.input t.link (WritesTaken name t) (WritesPart name t)
       (λ i l x. taken_part open_ name t i l x) h)
@@ -550,3 +511,4 @@ module _ (laws : AllLaws) (open_ : OpenRest) (name : List ℕ) (t : Traffic) whe
   begun_due run.Memory h = part_begun h
   begun_due (run.Truncated n) h = absurd h
   begun_due run.BadHeader h = absurd h
+  begun_due other h = all_begun other h

@@ -6,16 +6,12 @@ use Rattle.dp_io.proofs.Prefixes.{grows_whole}
 use Rattle.dp_lines.specs.declared.line.Line.{Line}
 use Rattle.dp_schedule.specs.declared.join_action.JoinAction.{JoinAction}
 use Rattle.dp_schedule.specs.JoinGrammar.{Asks}
-use Rattle.dp_script.specs.declared.machine.Undone.{Undone}
-use Rattle.dp_script.specs.declared.machine.Undone.TheVariants as undone
-use Rattle.dp_script.specs.Ends.{IfEnded, IfNoStep}
 use Rattle.dp_script.specs.Moments.{Moment}
 use Rattle.dp_joining.specs.declared.stops.JoinStop.{JoinStop}
-use Rattle.dp_joining.specs.declared.stops.JoinStop.TheVariants.{WriteFault, LinkFault, Memory}
-use Rattle.dp_joining.specs.declared.stops.JoinStop.TheVariants.{NoEntry}
+use Rattle.dp_joining.specs.declared.stops.JoinStop.TheVariants.{Memory}
 use Rattle.dp_joining.specs.Joining.{Joining, Waits, after_line, along, came_to, takeable}
-use Rattle.dp_joining.specs.Outcomes.{AllAsk, IsJoinStep}
-use Rattle.dp_joining.specs.Scripts.{HasDone, HasEnded, IsJoinLineRefused, at}
+use Rattle.dp_joining.specs.Outcomes.{AllAsk}
+use Rattle.dp_joining.specs.Scripts.{HasDone, HasEnded, at}
 use Rattle.dp_joining.specs.Steps.{Began, Halts, IsReadable, Passes, Seen, Stands, Stops}
 use Rattle.dp_joining.proofs.Along.{along_exact, along_next, along_one, along_short}
 use Rattle.dp_joining.proofs.Along.{takeable-append}
@@ -138,31 +134,3 @@ module _ {M O : Type 0} (see : M → O → ℕ → ℕ → Seen) where
     reads = reads_none (at see start).source readable;
     goes = λ first j stands. record { joining = j; goes = refl; stands = stands };
   }
-
--- ---- lines that ask for nothing, and memory
-
-module _ {M O : Type 0} (see : M → O → ℕ → ℕ → Seen) where
-  pub refused_by : (now : Moment M O ℕ ℕ) (line : Line) (u : Undone JoinStop)
-      → IsJoinLineRefused line u
-      → IfNoStep ((start : Moment M O ℕ ℕ) (done : List Line) → HasDone see start done now
-      → ¬ IsJoinStep done line) u
-  refused_by now line undone.NoStep refused =
-      λ start done has step. refused step.0 step.1
-  refused_by now line (undone.Ended why) refused = tt
-
-  pub kept_by : (now : Moment M O ℕ ℕ) (u : Undone JoinStop)
-      → IfNoStep ((start : Moment M O ℕ ℕ) (done : List Line) → HasDone see start done now
-      → HasDone see start done now) u
-  kept_by now undone.NoStep = λ start done has. has
-  kept_by now (undone.Ended why) = tt
-
-  pub ran_out_by : (now : Moment M O ℕ ℕ) (line : Line) (u : Undone JoinStop)
-      → IsJoinLineRefused line u
-      → IfEnded (λ why. (start : Moment M O ℕ ℕ) (done : List Line) → HasDone see start done now
-      → HasEnded see start done line now why) u
-  ran_out_by now line undone.NoStep refused = tt
-  ran_out_by now line (undone.Ended WriteFault) refused = absurd refused
-  ran_out_by now line (undone.Ended LinkFault) refused = absurd refused
-  ran_out_by now line (undone.Ended Memory) refused =
-      λ start done has. ran_out_at see start now done line has
-  ran_out_by now line (undone.Ended (NoEntry why)) refused = absurd refused

@@ -147,13 +147,7 @@ begins link entries run.Long (rest, t, long) =
       whole = parts.0;
       counts = parts.1;
     }
-begins link entries run.ReadFault comes = absurd comes
-begins link entries run.WriteFault comes = absurd comes
-begins link entries run.LinkFault comes = absurd comes
-begins link entries run.Memory comes = absurd comes
-begins link entries (run.BadLine n) comes = absurd comes
-begins link entries run.Closed comes = absurd comes
-begins link entries run.BadHeader comes = absurd comes
+begins link entries _ comes = absurd comes
 
 -- why it gives none more if none is a Disconnect
 by_end : (link : List ℕ) (entries : List Entry) (end : RunEnd) → is_closed entries ≡ false
@@ -163,13 +157,7 @@ by_end link entries (run.Truncated n) still comes =
     (cause.Closed, inr (inr (still, n, comes)))
 by_end link entries (run.BadMessage n) still comes = (cause.BadMessage n, (still, comes))
 by_end link entries run.Long still comes = (cause.Long, (still, comes))
-by_end link entries run.ReadFault still comes = absurd comes
-by_end link entries run.WriteFault still comes = absurd comes
-by_end link entries run.LinkFault still comes = absurd comes
-by_end link entries run.Memory still comes = absurd comes
-by_end link entries (run.BadLine n) still comes = absurd comes
-by_end link entries run.Closed still comes = absurd comes
-by_end link entries run.BadHeader still comes = absurd comes
+by_end link entries _ still comes = absurd comes
 
 link_ends : (link : List ℕ) (entries : List Entry) (end : RunEnd) → LinkComesTo link entries end
     → (why : LinkCause) × EndsLink link entries why

@@ -1,6 +1,8 @@
 pub mod Along
+pub mod Greeted
 pub mod Reading
 pub mod Moving
+pub mod Resets
 pub mod Taking
 pub mod Acting
 pub mod Doing

@@ -77,60 +77,49 @@ begin_alike laws link es ds first second =
     compared laws 0 first.frames second.frames es ds first.more second.more first.each second.each
     first.stand second.stand (sym first.whole ∙ second.whole)
 
--- entries with which bytes begin are the first of those whose frames are followed by none
-within_rest : Laws → (k : ℕ) (fs gs : List FrameParts) (es ds : List Entry) (xs rest : List ℕ)
-    → AllByRecursion IsFrame fs → AllByRecursion IsFrame gs
-    → StandFor StandsOnLink k fs es → StandFor StandsOnLink k gs ds → HoldsNoFrame rest
-    → flat_map spelling fs ++ xs ≡ flat_map spelling gs ++ rest → IsFirstOf es ds
-within_rest laws k [] gs [] ds xs rest each each_too stand stand_too none whole = first_nil ds
-within_rest laws k [] gs (x ∷ es) ds xs rest each each_too stand stand_too none whole =
-    absurd stand
-within_rest laws k (f ∷ fs) gs [] ds xs rest each each_too stand stand_too none whole =
-    absurd stand
-within_rest laws k (f ∷ fs) [] (x ∷ es) ds xs rest each each_too stand stand_too none whole =
-    absurd (none f (flat_map spelling fs ++ xs) each.0
-    (sym whole ∙ append_assoc (spelling f) (flat_map spelling fs) xs))
-within_rest laws k (f ∷ fs) (g ∷ gs) (x ∷ es) [] xs rest each each_too stand stand_too none whole =
-    absurd stand_too
-within_rest laws k (f ∷ fs) (g ∷ gs) (x ∷ es) (y ∷ ds) xs rest each each_too stand stand_too none
-    whole =
-    let same = same_first laws f g fs gs xs rest each.0 each_too.0 whole in
-    let here : x ≡ y = same_entry laws k f g x y same.0 stand.0 stand_too.0 in
-    subst (λ (z : Entry). IsFirstOf (z ∷ es) (y ∷ ds)) (sym here)
-    (first_more y es ds (within_rest laws (k + 1) fs gs es ds xs rest each.1 each_too.1 stand.1
-    stand_too.1 none same.1))
+-- no frame with which the bytes begin may stand with these many before it
+abbrev StopsThere : ℕ → List ℕ → Type 0
+StopsThere before bytes =
+    (f : FrameParts) (others : List ℕ) (e : Entry) → IsFrame f → spelling f ++ others ≡ bytes
+    → StandsOnLink before f e → ⊥
 
--- or by one that may not stand
-within_bad : Laws → (k n : ℕ) (fs gs : List FrameParts) (es ds : List Entry) (bad : FrameParts)
-    (xs more : List ℕ) → n ≡ k + length gs
-    → AllByRecursion IsFrame fs → AllByRecursion IsFrame gs → IsFrame bad
-    → StandFor StandsOnLink k fs es → StandFor StandsOnLink k gs ds
-    → ((entry : Entry) → StandsOnLink n bad entry → ⊥)
-    → flat_map spelling fs ++ xs ≡ flat_map spelling gs ++ (spelling bad ++ more)
-    → IsFirstOf es ds
-within_bad laws k n [] gs [] ds bad xs more at each each_too fits stand stand_too none whole =
-    first_nil ds
-within_bad laws k n [] gs (x ∷ es) ds bad xs more at each each_too fits stand stand_too none whole =
+-- entries with which bytes begin are the first of those whose frames are followed by none that may
+-- stand
+within_rest : Laws → (k n : ℕ) (fs gs : List FrameParts) (es ds : List Entry) (xs rest : List ℕ)
+    → n ≡ k + length gs → AllByRecursion IsFrame fs → AllByRecursion IsFrame gs
+    → StandFor StandsOnLink k fs es → StandFor StandsOnLink k gs ds → StopsThere n rest
+    → flat_map spelling fs ++ xs ≡ flat_map spelling gs ++ rest → IsFirstOf es ds
+within_rest laws k n [] gs [] ds xs rest at each each_too stand stand_too none whole = first_nil ds
+within_rest laws k n [] gs (x ∷ es) ds xs rest at each each_too stand stand_too none whole =
     absurd stand
-within_bad laws k n (f ∷ fs) gs [] ds bad xs more at each each_too fits stand stand_too none whole =
+within_rest laws k n (f ∷ fs) gs [] ds xs rest at each each_too stand stand_too none whole =
     absurd stand
-within_bad laws k n (f ∷ fs) [] (x ∷ es) ds bad xs more at each each_too fits stand stand_too none
-    whole =
-    let same = laws.first f bad (flat_map spelling fs ++ xs) more each.0 fits
-    (sym (append_assoc (spelling f) (flat_map spelling fs) xs) ∙ whole) in
+within_rest laws k n (f ∷ fs) [] (x ∷ es) ds xs rest at each each_too stand stand_too none whole =
     let here : k ≡ n = omega (arith, at) in
-    absurd (none x (subst (λ (m : ℕ). StandsOnLink m bad x) here
-    (subst (λ (h : FrameParts). StandsOnLink k h x) same.0 stand.0)))
-within_bad laws k n (f ∷ fs) (g ∷ gs) (x ∷ es) [] bad xs more at each each_too fits stand stand_too
-    none whole = absurd stand_too
-within_bad laws k n (f ∷ fs) (g ∷ gs) (x ∷ es) (y ∷ ds) bad xs more at each each_too fits stand
-    stand_too none whole =
-    let same = same_first laws f g fs gs xs (spelling bad ++ more) each.0 each_too.0 whole in
+    absurd (none f (flat_map spelling fs ++ xs) x each.0
+    (sym (append_assoc (spelling f) (flat_map spelling fs) xs) ∙ whole)
+    (subst (λ (m : ℕ). StandsOnLink m f x) here stand.0))
+within_rest laws k n (f ∷ fs) (g ∷ gs) (x ∷ es) [] xs rest at each each_too stand stand_too none
+    whole = absurd stand_too
+within_rest laws k n (f ∷ fs) (g ∷ gs) (x ∷ es) (y ∷ ds) xs rest at each each_too stand stand_too
+    none whole =
+    let same = same_first laws f g fs gs xs rest each.0 each_too.0 whole in
     let here : x ≡ y = same_entry laws k f g x y same.0 stand.0 stand_too.0 in
     let next : n ≡ (k + 1) + length gs = omega (arith, at) in
     subst (λ (z : Entry). IsFirstOf (z ∷ es) (y ∷ ds)) (sym here)
-    (first_more y es ds (within_bad laws (k + 1) n fs gs es ds bad xs more next each.1 each_too.1
-    fits stand.1 stand_too.1 none same.1))
+    (first_more y es ds (within_rest laws (k + 1) n fs gs es ds xs rest next each.1 each_too.1
+    stand.1 stand_too.1 none same.1))
+
+-- there is no frame
+stops_empty : (n : ℕ) (rest : List ℕ) → HoldsNoFrame rest → StopsThere n rest
+stops_empty n rest none f others e fits whole stands = none f others fits (sym whole)
+
+-- there is one that may not stand
+stops_bad : Laws → (n : ℕ) (bad : FrameParts) (more : List ℕ) → IsFrame bad
+    → ((entry : Entry) → StandsOnLink n bad entry → ⊥) → StopsThere n (spelling bad ++ more)
+stops_bad laws n bad more fits none f others e fits_too whole stands =
+    none e (subst (λ (h : FrameParts). StandsOnLink n h e)
+    (laws.first f bad others more fits_too fits whole).0 stands)
 
 -- the bytes that count begin with the entries, too
 counted : (link : List ℕ) (es : List Entry) (first : BeginsWith link es)
@@ -148,26 +137,22 @@ counted link es first =
 pub within_all : Laws → (link : List ℕ) (es ds : List Entry) (end : RunEnd)
     → BeginsWith link es → LinkComesTo link ds end → IsFirstOf es ds
 within_all laws link es ds run.Done first (tells, short) =
-    within_rest laws 0 first.frames tells.frames es ds first.more [] first.each tells.splits.each
-    first.stand tells.stand tells.splits.partial (sym first.whole ∙ tells.splits.whole)
+    within_rest laws 0 (length tells.frames) first.frames tells.frames es ds first.more []
+    (omega arith) first.each tells.splits.each first.stand tells.stand
+    (stops_empty _ [] tells.splits.partial) (sym first.whole ∙ tells.splits.whole)
 within_all laws link es ds (run.Truncated n) first (rest, tells, some, ends, short) =
-    within_rest laws 0 first.frames tells.frames es ds first.more rest first.each
-    tells.splits.each first.stand tells.stand tells.splits.partial
-    (sym first.whole ∙ tells.splits.whole)
+    within_rest laws 0 (length tells.frames) first.frames tells.frames es ds first.more rest
+    (omega arith) first.each tells.splits.each first.stand tells.stand
+    (stops_empty _ rest tells.splits.partial) (sym first.whole ∙ tells.splits.whole)
 within_all laws link es ds run.Long first (rest, tells, long) =
-    within_rest laws 0 first.frames tells.frames es ds
-    (take (stream_limit - length (flat_map spelling first.frames)) first.more) rest first.each
-    tells.splits.each first.stand tells.stand tells.splits.partial
-    (sym (counted link es first) ∙ tells.splits.whole)
+    within_rest laws 0 (length tells.frames) first.frames tells.frames es ds
+    (take (stream_limit - length (flat_map spelling first.frames)) first.more) rest
+    (omega arith) first.each tells.splits.each first.stand tells.stand
+    (stops_empty _ rest tells.splits.partial) (sym (counted link es first) ∙ tells.splits.whole)
 within_all laws link es ds (run.BadMessage n) first (after, tells, place) =
-    within_bad laws 0 (length tells.frames) first.frames tells.frames es ds tells.bad
-    (take (stream_limit - length (flat_map spelling first.frames)) first.more) tells.more
-    (omega arith) first.each tells.each tells.fits first.stand tells.stand tells.nothing
+    within_rest laws 0 (length tells.frames) first.frames tells.frames es ds
+    (take (stream_limit - length (flat_map spelling first.frames)) first.more)
+    (spelling tells.bad ++ tells.more) (omega arith) first.each tells.each first.stand tells.stand
+    (stops_bad laws (length tells.frames) tells.bad tells.more tells.fits tells.nothing)
     (sym (counted link es first) ∙ tells.whole)
-within_all laws link es ds run.ReadFault first comes = absurd comes
-within_all laws link es ds run.WriteFault first comes = absurd comes
-within_all laws link es ds run.LinkFault first comes = absurd comes
-within_all laws link es ds run.Memory first comes = absurd comes
-within_all laws link es ds (run.BadLine n) first comes = absurd comes
-within_all laws link es ds run.Closed first comes = absurd comes
-within_all laws link es ds run.BadHeader first comes = absurd comes
+within_all laws link es ds _ first comes = absurd comes

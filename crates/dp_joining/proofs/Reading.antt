@@ -2,7 +2,7 @@
 use Rattle.std.proofs.Common.{◌≡◌, inl, inr, ℕ, ◌+◌, ◌<◌, ◌≤◌, true, false, List, [], ◌∷◌}
 use Rattle.std.proofs.Common.{◌++◌}
 use Rattle.std.proofs.Common.{length, refl, sym, ap, ◌∙◌, subst, arith, ◌||◌, if◌then◌else◌}
-use Rattle.std.specs.Prelude.{Option, IsTrue}
+use Rattle.std.specs.Prelude.{Bool, Option, IsTrue}
 use Rattle.std.specs.List.{flat_map}
 use Rattle.std.proofs.lemmas.List.{append_assoc, append-nil, nil_from_length, length-append}
 use Rattle.dp_frame.specs.Frames.{spelling}
@@ -213,43 +213,6 @@ pulled_end old now left end readable ends later fault = record {
 
 -- ---- Pings
 
--- a Ping more
-pub ping_more : (a b c : Source) (xs : List Entry) (e : Entry) → ReadsOn a b xs
-    → takeable xs ≡ [] → ReadsOn b c (e ∷ []) → is_ping e.msg ≡ true
-    → takeable (xs ++ e ∷ []) ≡ []
-ping_more a b c xs e first none next ping =
-    takeable-append xs (e ∷ []) first.still
-    ∙ ap (λ es. es ++ takeable (e ∷ [])) none
-    ∙ taken_one e next.still
-    ∙ ap (λ p. if p then [] else e ∷ []) ping
-
--- an entry that is taken, after Pings
-pub gives_entry : (a b c : Source) (xs : List Entry) (e : Entry) → ReadsOn a b xs
-    → takeable xs ≡ [] → ReadsOn b c (e ∷ []) → is_ping e.msg ≡ false
-    → GivesEntry a c e
-gives_entry a b c xs e first none next ping = record {
-  given = xs ++ e ∷ [];
-  reads = reads_twice a b c xs (e ∷ []) first next;
-  only =
-      takeable-append xs (e ∷ []) first.still
-      ∙ ap (λ es. es ++ takeable (e ∷ [])) none
-      ∙ taken_one e next.still
-      ∙ ap (λ p. if p then [] else e ∷ []) ping;
-}
-
--- none, after Pings
-pub gives_none : (a b c : Source) (xs : List Entry) (stop : JoinStop) → ReadsOn a b xs
-    → takeable xs ≡ [] → GivesNone b c stop → GivesNone a c stop
-gives_none a b c xs stop first none next = record {
-  given = xs ++ next.given;
-  none =
-      takeable-append xs next.given first.still
-      ∙ ap (λ es. es ++ takeable next.given) none
-      ∙ next.none;
-  reads = reads_then a b xs next.given stop first next.reads;
-  fault = subst (λ n. FaultMatchesReading n c.faults stop) first.kept next.fault;
-}
-
 -- only Pings were read
 pub record Pings (old now : Source) : Type 0 where
   pub given : List Entry
@@ -259,19 +222,40 @@ pub record Pings (old now : Source) : Type 0 where
 pub pings_none : (s : Source) → IsReadable s → Pings s s
 pings_none s readable = record { given = []; reads = reads_none s readable; none = refl }
 
-pub pings_more : (a b c : Source) (e : Entry) → Pings a b → ReadsOn b c (e ∷ [])
-    → is_ping e.msg ≡ true → Pings a c
-pings_more a b c e pings next ping = record {
-  given = pings.given ++ e ∷ [];
-  reads = reads_twice a b c pings.given (e ∷ []) pings.reads next;
-  none = ping_more a b c pings.given e pings.reads pings.none next ping;
-}
+module _ (a b c : Source) (pings : Pings a b) where
+  -- what is taken of an entry after them
+  taken_after : (e : Entry) → ReadsOn b c (e ∷ []) → (p : Bool) → is_ping e.msg ≡ p
+      → takeable (pings.given ++ e ∷ []) ≡ (if p then [] else e ∷ [])
+  taken_after e next p is =
+      takeable-append pings.given (e ∷ []) pings.reads.still
+      ∙ ap (λ es. es ++ takeable (e ∷ [])) pings.none
+      ∙ taken_one e next.still
+      ∙ ap (λ q. if q then [] else e ∷ []) is
 
-pub pings_entry : (a b c : Source) (e : Entry) → Pings a b → ReadsOn b c (e ∷ [])
-    → is_ping e.msg ≡ false → GivesEntry a c e
-pings_entry a b c e pings next other =
-    gives_entry a b c pings.given e pings.reads pings.none next other
+  -- a Ping more
+  pub pings_more : (e : Entry) → ReadsOn b c (e ∷ []) → is_ping e.msg ≡ true → Pings a c
+  pings_more e next ping = record {
+    given = pings.given ++ e ∷ [];
+    reads = reads_twice a b c pings.given (e ∷ []) pings.reads next;
+    none = taken_after e next true ping;
+  }
 
-pub pings_end : (a b c : Source) (stop : JoinStop) → Pings a b → GivesNone b c stop
-    → GivesNone a c stop
-pings_end a b c stop pings next = gives_none a b c pings.given stop pings.reads pings.none next
+  -- an entry that is taken
+  pub pings_entry : (e : Entry) → ReadsOn b c (e ∷ []) → is_ping e.msg ≡ false → GivesEntry a c e
+  pings_entry e next other = record {
+    given = pings.given ++ e ∷ [];
+    reads = reads_twice a b c pings.given (e ∷ []) pings.reads next;
+    only = taken_after e next false other;
+  }
+
+  -- none
+  pub pings_end : (stop : JoinStop) → GivesNone b c stop → GivesNone a c stop
+  pings_end stop next = record {
+    given = pings.given ++ next.given;
+    none =
+        takeable-append pings.given next.given pings.reads.still
+        ∙ ap (λ es. es ++ takeable next.given) pings.none
+        ∙ next.none;
+    reads = reads_then a b pings.given next.given stop pings.reads next.reads;
+    fault = subst (λ n. FaultMatchesReading n c.faults stop) pings.reads.kept next.fault;
+  }

@@ -5,7 +5,7 @@ use Rattle.std.specs.Io.KnownBytes.{Appends}
 use Rattle.dp_joining.specs.Leaves.{Counts, FaultMatchesJoin, JoinLeaves, Traffic, WritesAll}
 use Rattle.dp_joining.specs.Outcomes.{JoinComesTo, JoinOutcome}
 use Rattle.dp_joining.specs.Runs.{Ends, Returns, RunLeaves, traffic_of}
-use Rattle.dp_joining.specs.Steps.{DrawsFew}
+use Rattle.dp_joining.proofs.Leaving.{Writes}
 use Rattle.dp_lines.specs.declared.run_end.RunEnd.{RunEnd}
 use Rattle.dp_lines.specs.declared.run_end.RunEnd.TheVariants.{Done, ReadFault, WriteFault}
 use Rattle.dp_lines.specs.declared.run_end.RunEnd.TheVariants.{LinkFault, Memory, Truncated}
@@ -20,13 +20,6 @@ of_streams old now ReadFault b = (b.0, b.1.output)
 of_streams old now WriteFault b = (b.0, b.1)
 of_streams old now LinkFault b = (b.0, b.1)
 of_streams old now _ b = (b.0, b.1.output)
-
--- what a script and a link come to was written
-abbrev pub Writes : List ℕ → Traffic → RunEnd → List ℕ → List ℕ → Type 0
-Writes name t end input link =
-    (outcome : JoinOutcome) × JoinComesTo name input link outcome × (outcome.end ≡ end)
-    × Appends t.print_old t.print_now outcome.text × Appends t.sent_old t.sent_now outcome.written
-    × DrawsFew t.counters outcome.due
 
 writes-all : (name : List ℕ) (t : Traffic) (end : RunEnd) (input link : List ℕ)
     → t.input ≡ Some input → t.link ≡ Some link → WritesAll name t end

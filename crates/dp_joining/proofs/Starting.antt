@@ -21,59 +21,56 @@ use Rattle.dp_joining.specs.declared.stops.JoinStop.{JoinStop}
 use Rattle.dp_joining.specs.declared.stops.JoinStop.TheVariants.{WriteFault, LinkFault, Memory}
 use Rattle.dp_joining.specs.declared.stops.JoinStop.TheVariants.{NoEntry}
 use Rattle.dp_joining.specs.declared.stops.LinkCause.{LinkCause}
-use Rattle.dp_joining.specs.declared.stops.LinkCause.TheVariants as cause
 use Rattle.dp_joining.specs.Greetings.{GreetingFails, Welcomes}
 use Rattle.dp_joining.specs.Joining.{Progress, came_to, caller, chat_limit, hello_bytes}
 use Rattle.dp_joining.specs.Leaves.{FaultMatchesJoin, Counts, IsWelcome, JoinLeaves}
 use Rattle.dp_joining.specs.Leaves.{ReadsNoFurther, Traffic, WaitsUnread, WhereKnown, WritesAll}
 use Rattle.dp_joining.specs.Leaves.{WritesPart}
-use Rattle.dp_joining.specs.Outcomes.{IsJoinStep, BeginsWith, JoinComesTo, JoinOutcome, link_end}
+use Rattle.dp_joining.specs.Outcomes.{IsJoinStep, BeginsWith, link_end}
 use Rattle.dp_joining.specs.Outcomes.{link_outcome}
 use Rattle.dp_script.specs.Limits.{lines_limit}
-use Rattle.dp_joining.specs.Steps.{DrawsFew, Seen, Shows, Source}
+use Rattle.dp_joining.specs.Steps.{DrawsFew, Linked, Seen, Shows, Source}
+use Rattle.dp_joining.specs.Steps.{seen as seen_at}
 use Rattle.dp_joining.specs.Stops.{end_of}
+use Rattle.dp_joining.proofs.Leaving.{Writes, link_fault, link_leaves}
 use Rattle.dp_joining.proofs.Moving.{drew_none, grows_not}
 use Rattle.dp_joining.proofs.Reading.{given_begins}
 
 -- ---- welcomed
 
-pub welcome_stands : (name : List ℕ) (left : Option (List ℕ)) (faults : ℕ) (first start : Seen)
-    (welcomes : Welcomes left faults start.source start.client)
-    → start.chats ≡ buffer [] chat_limit
-    → start.printed ≡ first.printed → start.print_faults ≡ first.print_faults
-    → Appends first.written start.written (hello_bytes name)
-    → start.write_faults ≡ first.write_faults → first.source.faults ≡ faults
-    → start.draws ≡ first.draws → start.tiles ≡ first.tiles
-    → IsWelcome name left first start welcomes.first
-welcome_stands name left faults first start welcomes chats same print wrote write read draws tiles =
-    record {
-      greets = welcomes.welcome name;
-      stands = record {
-        client = refl;
-        chats = chats;
-        text = subst (λ (p : Option (List ℕ)). Appends first.printed p []) (sym same)
-            (Appends-nil first.printed);
-        written = wrote;
-        faultless = record {
-          print = print;
-          write = write;
-          read = welcomes.kept ∙ sym read;
-        };
-        counts =
-            subst (λ (n : ℕ). CountsFew reach [] first.draws n first.tiles start.tiles) (sym draws)
-            (subst (λ (n : ℕ). CountsFew reach [] first.draws first.draws first.tiles n)
-            (sym tiles) (drew_none [] first.draws first.tiles));
-      };
-      has_given = welcomes.has_given;
-      still = welcomes.still;
-    }
+-- A client that was welcomed over a link, of which the source counted these faults before. The sink
+-- held these bytes then, and counted its own.
+module _ {O : Type 0} (held : O → Option (List ℕ)) (print_faults : O → ℕ) (output : O)
+    (draws tiles : ℕ) (name : List ℕ) (left : Option (List ℕ)) (faults : ℕ)
+    (sent : Option (List ℕ)) (sink : ℕ) where
+  abbrev pub first : Linked → Seen
+  first joiner = seen_at held print_faults (record joiner {
+    written = sent;
+    write_faults = sink;
+    source = record joiner.source { faults = faults };
+  }) output draws tiles
 
--- a welcome by equal sources and clients
-pub welcomes_as : (left : Option (List ℕ)) (faults : ℕ) (s t : Source) (c d : State) → t ≡ s
-    → d ≡ c → Welcomes left faults s c → Welcomes left faults t d
-welcomes_as left faults s t c d sources clients welcomes =
-    subst (λ (x : Source). Welcomes left faults x d) (sym sources)
-    (subst (λ (x : State). Welcomes left faults s x) (sym clients) welcomes)
+  pub welcomed_by : (joiner start : Linked) → joiner ≡ start
+      → (welcomes : Welcomes left faults start.source start.client)
+      → start.chats ≡ buffer [] chat_limit → Appends sent start.written (hello_bytes name)
+      → start.write_faults ≡ sink
+      → IsWelcome name left (first start) (seen_at held print_faults joiner output draws tiles)
+      welcomes.first
+  welcomed_by joiner start is welcomes chats wrote write =
+      subst (λ (j : Linked). IsWelcome name left (first start)
+      (seen_at held print_faults j output draws tiles) welcomes.first) (sym is) (record {
+        greets = welcomes.welcome name;
+        stands = record {
+          client = refl;
+          chats = chats;
+          text = Appends-nil (held output);
+          written = wrote;
+          faultless = record { print = refl; write = write; read = welcomes.kept };
+          counts = drew_none [] draws tiles;
+        };
+        has_given = welcomes.has_given;
+        still = welcomes.still;
+      })
 
 -- ---- not welcomed
 
@@ -143,9 +140,7 @@ module _ (name : List ℕ) (t : Traffic) (source source_now sink sink_now : ℕ)
       (NoEntry why))
       → t.print_now ≡ t.print_old → NothingIsDrawn t.counters → WritesAll name t (link_end why)
   hello_all why fails same still =
-      both_known t.input t.link (λ i l. (outcome : JoinOutcome) × JoinComesTo name i l outcome
-      × (outcome.end ≡ link_end why) × Appends t.print_old t.print_now outcome.text
-      × Appends t.sent_old t.sent_now outcome.written × DrawsFew t.counters outcome.due)
+      both_known t.input t.link (Writes name t (link_end why))
       (λ bytes. Shows bytes fails.given (NoEntry why)) fails.reads (λ i l shows. (
         link_outcome why (caller name),
         inr (record {
@@ -167,33 +162,18 @@ module _ (name : List ℕ) (t : Traffic) (source source_now sink sink_now : ℕ)
         drawn_nothing t.counters still,
       ))
 
-  link_leaves : (why : LinkCause) → WritesAll name t (link_end why)
-      → JoinLeaves name t (link_end why)
-  link_leaves cause.Closed all = all
-  link_leaves (cause.BadMessage n) all = all
-  link_leaves cause.Long all = all
-
   pub failed_leaves : (stop : JoinStop)
       → GreetingFails name t.link t.sent_old t.sent_now source source_now sink sink_now stop
       → t.print_now ≡ t.print_old → NothingIsDrawn t.counters → JoinLeaves name t (end_of stop)
-  failed_leaves WriteFault fails same still =
-      hello_part WriteFault fails same still (λ bytes shows. shows) fails.wrote
-  failed_leaves LinkFault fails same still =
-      hello_part LinkFault fails same still (λ bytes shows. shows) fails.wrote
-  failed_leaves Memory fails same still =
-      hello_part Memory fails same still (λ bytes shows. shows) fails.wrote
-  failed_leaves (NoEntry why) fails same still = link_leaves why (hello_all why fails same still)
+  failed_leaves (NoEntry why) fails same still =
+      link_leaves name t why (hello_all why fails same still)
+  failed_leaves other fails same still =
+      hello_part other fails same still (λ bytes shows. shows) fails.wrote
 
   module _ (input output : ℕ) where
     abbrev counts : ℕ → ℕ → Counts
     counts source sink =
         record { input = input; output = output; source = source; sink = sink }
-
-    link_fault : (why : LinkCause) → source_now ≡ source → sink_now ≡ sink
-        → FaultMatchesJoin (counts source sink) (counts source_now sink_now) (link_end why)
-    link_fault cause.Closed r w = (refl, record { output = refl; source = r; sink = w })
-    link_fault (cause.BadMessage n) r w = (refl, record { output = refl; source = r; sink = w })
-    link_fault cause.Long r w = (refl, record { output = refl; source = r; sink = w })
 
     pub failed_fault : (stop : JoinStop)
         → GreetingFails name t.link t.sent_old t.sent_now source source_now sink sink_now stop
@@ -202,7 +182,9 @@ module _ (name : List ℕ) (t : Traffic) (source source_now sink sink_now : ℕ)
     failed_fault LinkFault fails = (refl, refl, fails.fault.2)
     failed_fault Memory fails =
         (refl, record { output = refl; source = fails.fault.0; sink = fails.fault.1 })
-    failed_fault (NoEntry why) fails = link_fault why fails.fault.0 fails.fault.1
+    failed_fault (NoEntry why) fails =
+        link_fault (counts source sink) (counts source_now sink_now) why refl
+        (record { output = refl; source = fails.fault.0; sink = fails.fault.1 })
 
 -- ---- what was read of the script
 

@@ -2,41 +2,28 @@
 use Rattle.std.proofs.Common.{◌≡◌, ℕ, ◌+◌, ◌<◌, ◌≤◌, Bool, true, false, if◌then◌else◌, List, []}
 use Rattle.std.proofs.Common.{◌∷◌}
 use Rattle.std.proofs.Common.{◌++◌, length, refl, sym, ap, ◌∙◌, subst, arith, length-append}
-use Rattle.std.specs.Prelude.{Option}
 use Rattle.std.specs.List.{fold}
 use Rattle.std.specs.Io.KnownBytes.{Appends}
 use Rattle.std.proofs.lemmas.List.{append-nil}
 use Rattle.std.proofs.lemmas.List.Sums.{fold-append}
-use Rattle.dp_board.specs.Counts.{CountsFew}
-use Rattle.dp_client.specs.Client.{State}
 use Rattle.dp_io.proofs.Prefixes.{grows_whole}
-use Rattle.dp_msg_draw.specs.declared.draw.Draw.{Draw}
 use Rattle.dp_messages.specs.declared.message.Entry.{Entry}
 use Rattle.dp_messages.specs.Properties.{is_disconnect}
-use Rattle.dp_pixels.specs.Feet.{reach}
 use Rattle.dp_schedule.specs.declared.join_action.JoinAction.TheVariants.{Take}
 use Rattle.dp_joining.specs.declared.stops.JoinStop.{JoinStop}
-use Rattle.dp_joining.specs.declared.stops.JoinStop.TheVariants.{WriteFault, LinkFault, Memory}
 use Rattle.dp_joining.specs.declared.stops.JoinStop.TheVariants.{NoEntry}
 use Rattle.dp_joining.specs.Joining.{Joining, takeable, took_entry}
 use Rattle.dp_joining.specs.JoinStanding.{is_ping}
-use Rattle.dp_joining.specs.Steps.{DrawsFew, Fails, GivesEntry, GivesNone, Halts, counters_at}
-use Rattle.dp_joining.specs.Steps.{IsNoEntry, IsReady, Moves, ReadsOn, Seen}
 use Rattle.dp_joining.specs.Outcomes.{BeginsWith}
+use Rattle.dp_joining.specs.Steps.{Fails, FaultMatchesReading, GivesEntry, GivesNone, Halts}
+use Rattle.dp_joining.specs.Steps.{IsNoEntry, IsReady, Moves, Passes, ReadsOn, Seen}
 use Rattle.dp_joining.specs.Steps.{Shows, Source, Stands, Stops, Wrote}
 use Rattle.dp_joining.proofs.Along.{takeable-append}
-use Rattle.dp_joining.proofs.Moving.{fault_matches_from, faultless_twice, reading_fault}
+use Rattle.dp_joining.proofs.Moving.{fault_matches_from, reading_fault}
 use Rattle.dp_joining.proofs.Reading.{reads_none, reads_then, reads_twice, stops_here}
 
--- `count` entries are taken
-pub record Taking (old now : Seen) (count : ℕ) : Type 0 where
-  pub given : List Entry
-  pub reads : ReadsOn old.source now.source given
-  pub many : length (takeable given) ≡ count
-  pub moves : Moves old now (λ j. fold took_entry j (takeable given))
-  pub ready : IsReady now.client now.source
-
-pub taking_none : (s : Seen) → IsReady s.client s.source → Taking s s 0
+-- no entry is taken yet
+pub taking_none : (s : Seen) → IsReady s.client s.source → Passes s s (Take 0)
 taking_none s ready = record {
   given = [];
   reads = reads_none s.source ready.readable;
@@ -47,67 +34,47 @@ taking_none s ready = record {
 
 -- ---- reading alone
 
--- reading the link leaves the client, and what was printed and written
-pub record IsRead (old now : Seen) : Type 0 where
-  pub client : now.client ≡ old.client
-  pub chats : now.chats ≡ old.chats
-  pub printed : now.printed ≡ old.printed
-  pub print_faults : now.print_faults ≡ old.print_faults
-  pub written : now.written ≡ old.written
-  pub write_faults : now.write_faults ≡ old.write_faults
-  pub draws : now.draws ≡ old.draws
-  pub tiles : now.tiles ≡ old.tiles
-
-counts_read : (start old now : Seen) (due : List Draw) → IsRead old now
-    → DrawsFew (counters_at start old) due → DrawsFew (counters_at start now) due
-counts_read start old now due read few =
-    subst (λ (n : ℕ). CountsFew reach due start.draws n start.tiles now.tiles) (sym read.draws)
-    (subst (λ (n : ℕ). CountsFew reach due start.draws old.draws start.tiles n) (sym read.tiles)
-    few)
+-- reading the link leaves all but its source
+abbrev pub IsRead : Seen → Seen → Type 0
+IsRead old now = now ≡ record old { source = now.source }
 
 read_stands : (start old now : Seen) (j : Joining) → IsRead old now
     → now.source.faults ≡ old.source.faults → Stands start old j → Stands start now j
-read_stands start old now j read kept stands = record {
-  client = read.client ∙ stands.client;
-  chats = read.chats ∙ stands.chats;
-  text =
-      subst (λ (p : Option (List ℕ)). Appends start.printed p j.text) (sym read.printed)
-      stands.text;
-  written =
-      subst (λ (p : Option (List ℕ)). Appends start.written p j.written) (sym read.written)
-      stands.written;
-  faultless = faultless_twice start old now stands.faultless
-      (record { print = read.print_faults; write = read.write_faults; read = kept });
-  counts = counts_read start old now j.due read stands.counts;
-}
+read_stands start old now j read kept stands =
+    subst (λ (s : Seen). Stands start s j) (sym read) (record {
+      client = stands.client;
+      chats = stands.chats;
+      text = stands.text;
+      written = stands.written;
+      faultless = record {
+        print = stands.faultless.print;
+        write = stands.faultless.write;
+        read = kept ∙ stands.faultless.read;
+      };
+      counts = stands.counts;
+    })
 
 wrote_whole : (start now : Seen) (text written : List ℕ) (stop : JoinStop)
     → Appends start.printed now.printed text → Appends start.written now.written written
     → Wrote start now text written stop
-wrote_whole start now text written WriteFault t w = record {
-  printed = grows_whole start.printed now.printed text t;
-  sent = grows_whole start.written now.written written w;
-}
-wrote_whole start now text written LinkFault t w = record {
-  printed = grows_whole start.printed now.printed text t;
-  sent = grows_whole start.written now.written written w;
-}
-wrote_whole start now text written Memory t w = record {
-  printed = grows_whole start.printed now.printed text t;
-  sent = grows_whole start.written now.written written w;
-}
 wrote_whole start now text written (NoEntry why) t w = (t, w)
+wrote_whole start now text written _ t w = record {
+  printed = grows_whole start.printed now.printed text t;
+  sent = grows_whole start.written now.written written w;
+}
 
-wrote_read : (start old now : Seen) (j : Joining) (stop : JoinStop) → IsRead old now
-    → Stands start old j → Wrote start now j.text j.written stop
-wrote_read start old now j stop read stands =
-    let text =
-    subst (λ (p : Option (List ℕ)). Appends start.printed p j.text) (sym read.printed) stands.text
-    in
-    let written =
-    subst (λ (p : Option (List ℕ)). Appends start.written p j.written) (sym read.written)
-    stands.written in
-    wrote_whole start now j.text j.written stop text written
+-- reading the link stops
+read_stops : (start old now : Seen) (j : Joining) (stop : JoinStop) → IsRead old now
+    → FaultMatchesReading old.source.faults now.source.faults stop → Stands start old j
+    → Stops start now j stop
+read_stops start old now j stop read fault stands =
+    let there : Seen = record old { source = now.source } in
+    subst (λ (s : Seen). Stops start s j stop) (sym read) (record {
+      wrote = wrote_whole start there j.text j.written stop stands.text stands.written;
+      fault = fault_matches_from start old there stop stands.faultless
+          (reading_fault old there stop fault refl refl);
+      counts = stands.counts;
+    })
 
 -- ---- one entry more
 
@@ -133,10 +100,8 @@ took_more j e given more is =
 -- if the client stops for another reason than the link, that is all there is to show
 pub shows_other : (stop : JoinStop) (bytes : List ℕ) (es : List Entry) → (IsNoEntry stop → ⊥)
     → BeginsWith bytes es → Shows bytes es stop
-shows_other WriteFault bytes es other begins = begins
-shows_other LinkFault bytes es other begins = begins
-shows_other Memory bytes es other begins = begins
 shows_other (NoEntry why) bytes es other begins = absurd (other tt)
+shows_other _ bytes es other begins = begins
 
 -- what is taken after an entry more
 taken_more : (given : List Entry) (old now : Source) (e : Entry) (gives : GivesEntry old now e)
@@ -147,12 +112,12 @@ taken_more given old now e gives first reads =
     ∙ ap (λ (es : List Entry). takeable given ++ es) gives.only
 
 -- an entry is given and taken
-pub taking_more : (a b m c : Seen) (n : ℕ) (e : Entry) → Taking a b n
+pub taking_more : (a b m c : Seen) (n : ℕ) (e : Entry) → Passes a b (Take n)
     → GivesEntry b.source m.source e → IsRead b m
     → Moves m c (λ j. took_entry j e)
     → length c.client.taken ≤ length m.client.taken + 1
     → c.source ≡ m.source
-    → Taking a c (n + 1)
+    → Passes a c (Take (n + 1))
 taking_more a b m c n e taking gives read moves few same =
     let taken = taken_more taking.given b.source m.source e gives a.source taking.reads in
     let reads = reads_twice a.source b.source m.source taking.given gives.given taking.reads
@@ -160,7 +125,7 @@ taking_more a b m c n e taking gives read moves few same =
     let some : 1 ≤ length gives.given =
     omega (arith, takeable-short gives.given, ap length gives.only) in
     let shorter : length m.client.taken ≡ length b.client.taken =
-    ap (λ (s : State). length s.taken) read.client in
+    ap (λ (s : Seen). length s.client.taken) read in
     record {
       given = taking.given ++ gives.given;
       reads = subst (λ (s : Source). ReadsOn a.source s (taking.given ++ gives.given)) (sym same)
@@ -180,8 +145,9 @@ taking_more a b m c n e taking gives read moves few same =
     }
 
 -- the link gives no entry more
-pub taking_ends : (a b c : Seen) (count n : ℕ) (stop : JoinStop) → n < count → Taking a b n
-    → GivesNone b.source c.source stop → IsRead b c → Halts a c (Take count) stop
+pub taking_ends : (a b c : Seen) (count n : ℕ) (stop : JoinStop) → n < count
+    → Passes a b (Take n) → GivesNone b.source c.source stop → IsRead b c
+    → Halts a c (Take count) stop
 taking_ends a b c count n stop within taking none read =
     let taken : takeable (taking.given ++ none.given) ≡ takeable taking.given =
     takeable-append taking.given none.given taking.reads.still
@@ -196,17 +162,12 @@ taking_ends a b c count n stop within taking none read =
           let before = fold took_entry j (takeable taking.given) in
           let there = taking.moves start j stands in
           subst (λ (es : List Entry). Stops start c (fold took_entry j es) stop) (sym taken)
-          (record {
-            wrote = wrote_read start b c before stop read there;
-            fault = fault_matches_from start b c stop there.faultless
-                (reading_fault b c stop none.fault read.print_faults read.write_faults);
-            counts = counts_read start b c before.due read there.counts;
-          });
+          (read_stops start b c before stop read none.fault there);
     }
 
 -- an entry that is given is not taken whole
 pub taking_fails : (a b m c : Seen) (count n : ℕ) (e : Entry) (stop : JoinStop) → n < count
-    → Taking a b n → GivesEntry b.source m.source e → IsRead b m
+    → Passes a b (Take n) → GivesEntry b.source m.source e → IsRead b m
     → Fails m c (λ j. took_entry j e) stop → Halts a c (Take count) stop
 taking_fails a b m c count n e stop within taking gives read fails =
     let taken = taken_more taking.given b.source m.source e gives a.source taking.reads in

@@ -5,16 +5,14 @@ use Rattle.std.proofs.Common.{◌∷◌, ◌++◌, length, take, drop, refl, sym
 use Rattle.std.specs.Prelude.{Option, Some, None}
 use Rattle.std.specs.Option.{option_map_or}
 use Rattle.std.proofs.lemmas.Bool.{cases_lt}
-use Rattle.dp_msg_meta.specs.declared.message.Control.TheVariants as control
 use Rattle.dp_messages.specs.declared.message.Entry.{Entry}
-use Rattle.dp_messages.specs.declared.message.Msg.{Msg}
-use Rattle.dp_messages.specs.declared.message.Msg.TheVariants as msg
 use Rattle.dp_messages.specs.Properties.{is_disconnect}
 use Rattle.dp_schedule.specs.declared.join_action.JoinAction.{JoinAction}
 use Rattle.dp_joining.specs.Joining.{Joining, Goes, Waits, after_line, along, asked_by}
 use Rattle.dp_joining.specs.Joining.{caller, greeted, is_closed, joined, takeable}
 use Rattle.dp_joining.specs.JoinStanding.{is_ping}
 use Rattle.dp_joining.proofs.Along.{along_enough, along_few, along_more}
+use Rattle.dp_joining.proofs.Greeted.{none_greeted}
 use Rattle.dp_joining.proofs.Prefixes.{IsFirstOf}
 
 -- ---- more entries
@@ -121,28 +119,11 @@ joined_goes name actions (e ∷ es) ds j left first goes =
     let (others, more) = goes_from name actions es first.rest (greeted name e.msg) j left goes in
     (others, ap (joined name actions) first.whole ∙ more)
 
--- a Disconnect greets nobody
-greeted_none : (name : List ℕ) (m : Msg) → is_disconnect m ≡ true → greeted name m ≡ None
-greeted_none name (msg.Control (control.Disconnect reason)) is = refl
-greeted_none name (msg.Control (control.Hello title)) is = absurd (cc (is))
-greeted_none name (msg.Control (control.Ping pong)) is = absurd (cc (is))
-greeted_none name (msg.Control (control.Ack epoch)) is = absurd (cc (is))
-greeted_none name (msg.Control (control.Welcome version user epoch at)) is = absurd (cc (is))
-greeted_none name (msg.Control control.ResetBegin) is = absurd (cc (is))
-greeted_none name (msg.Control control.ResetEnd) is = absurd (cc (is))
-greeted_none name (msg.Control (control.ResetFrom at)) is = absurd (cc (is))
-greeted_none name (msg.Meta m) is = absurd (cc (is))
-greeted_none name (msg.Part op) is = absurd (cc (is))
-greeted_none name msg.Point is = absurd (cc (is))
-greeted_none name (msg.Undo target redo) is = absurd (cc (is))
-greeted_none name (msg.Draw op) is = absurd (cc (is))
-greeted_none name (msg.Opaque kind body) is = absurd (cc (is))
-
 closed_first : (name : List ℕ) (actions : List JoinAction) (e : Entry) (es more : List Entry)
     (d : Bool) → is_disconnect e.msg ≡ d → d || is_closed es ≡ true
     → joined name actions (e ∷ (es ++ more)) ≡ joined name actions (e ∷ es)
 closed_first name actions e es more true is closed =
-    let none = greeted_none name e.msg is in
+    let none = none_greeted name e.msg (inl is) in
     ap (λ (o : Option Joining). option_map_or (λ j. along actions (takeable (es ++ more)) j) o
     (Waits (caller name))) none
     ∙ sym (ap (λ (o : Option Joining). option_map_or (λ j. along actions (takeable es) j) o

@@ -1,37 +1,30 @@
 -- How a client greets its server.
-use Rattle.std.proofs.Common.{◌≡◌, ◌⊎◌, inl, inr, ℕ, true, false, Bool, ◌||◌, List, [], ◌∷◌}
+use Rattle.std.proofs.Common.{◌≡◌, inl, ℕ, true, false, Bool, ◌||◌, List, [], ◌∷◌}
 use Rattle.std.proofs.Common.{◌++◌, length}
-use Rattle.std.proofs.Common.{refl, sym, ap, subst, arith, if◌then◌else◌, Ok, Err}
+use Rattle.std.proofs.Common.{refl, sym, ap, subst, arith, Ok, Err}
 use Rattle.std.specs.Prelude.{Option, Some, None, IfSome, IfOk, IfErr, IsTrue}
 use Rattle.std.specs.declared.result.Result.{Result}
 use Rattle.std.specs.Option.{option_map_or}
-use Rattle.std.specs.Io.KnownBytes.{Appends}
 use Rattle.dp_client.specs.Client.{State, welcomed}
 use Rattle.dp_entries.specs.Input.{StandFor}
 use Rattle.dp_entries.specs.Reader.{HasRead, Reader}
 use Rattle.dp_frame.specs.Frames.{FrameParts}
 use Rattle.dp_io.specs.Streams.{GrowsByPrefix}
-use Rattle.dp_io.proofs.Prefixes.{grows_whole}
-use Rattle.dp_msg_meta.specs.declared.message.Control.TheVariants as control
 use Rattle.dp_messages.specs.declared.message.Entry.{Entry}
-use Rattle.dp_messages.specs.declared.message.Msg.{Msg}
-use Rattle.dp_messages.specs.declared.message.Msg.TheVariants as msg
 use Rattle.dp_messages.specs.Properties.{is_disconnect}
-use Rattle.dp_schedule.specs.declared.join_action.JoinAction.{JoinAction}
 use Rattle.dp_joining.specs.declared.stops.LinkCause.TheVariants as cause
 use Rattle.dp_joining.specs.declared.stops.JoinStop.{JoinStop}
 use Rattle.dp_joining.specs.declared.stops.JoinStop.TheVariants.{WriteFault, LinkFault, Memory}
 use Rattle.dp_joining.specs.declared.stops.JoinStop.TheVariants.{NoEntry}
-use Rattle.dp_joining.specs.Greetings.{FaultMatchesGreeting, GreetingFails, NoWelcome, Welcomes}
-use Rattle.dp_joining.specs.Greetings.{WroteHello}
-use Rattle.dp_joining.specs.Joining.{Joining, Waits, along, caller, greeted, hello_bytes, joined}
+use Rattle.dp_joining.specs.Greetings.{GreetingFails, NoWelcome, Welcomes}
+use Rattle.dp_joining.specs.Joining.{Joining, Waits, along, caller, greeted, hello_bytes}
 use Rattle.dp_joining.specs.Joining.{newcomer}
 use Rattle.dp_joining.specs.Joining.{takeable}
-use Rattle.dp_joining.specs.JoinStanding.{StandsOnLink, is_ping, is_welcome}
+use Rattle.dp_joining.specs.JoinStanding.{StandsOnLink, is_welcome}
 use Rattle.dp_joining.specs.Outcomes.{BeginsWith}
-use Rattle.dp_joining.specs.Steps.{FaultMatchesReading, FaultMatchesWriting, HasGiven}
+use Rattle.dp_joining.specs.Steps.{FaultMatchesWriting, HasGiven}
 use Rattle.dp_joining.specs.Steps.{ReadsOn}
-use Rattle.dp_joining.specs.Steps.{ReadsUpTo, Shows, Source}
+use Rattle.dp_joining.specs.Steps.{Shows, Source}
 use Rattle.dp_joining.proofs.Along.{either_false}
 use Rattle.dp_joining.proofs.Moving.{grows_not}
 use Rattle.dp_joining.proofs.Reading.{given_begins}
@@ -130,49 +123,6 @@ memory_stops (Err stop) left old now es reads is =
       fault = reads.kept;
     })
 
--- a message that is passed over, or closes the link, greets nobody
-none_greeted : (name : List ℕ) (m : Msg) → (is_disconnect m ≡ true) ⊎ (is_ping m ≡ true)
-    → greeted name m ≡ None
-none_greeted name (msg.Control (control.Welcome version user epoch at)) (inl is) =
-    absurd (cc (is))
-none_greeted name (msg.Control (control.Welcome version user epoch at)) (inr is) =
-    absurd (cc (is))
-none_greeted name (msg.Control (control.Disconnect reason)) is = refl
-none_greeted name (msg.Control (control.Hello title)) is = refl
-none_greeted name (msg.Control (control.Ping pong)) is = refl
-none_greeted name (msg.Control (control.Ack epoch)) is = refl
-none_greeted name (msg.Control control.ResetBegin) is = refl
-none_greeted name (msg.Control control.ResetEnd) is = refl
-none_greeted name (msg.Control (control.ResetFrom at)) is = refl
-none_greeted name (msg.Meta m) is = refl
-none_greeted name (msg.Part op) is = refl
-none_greeted name msg.Point is = refl
-none_greeted name (msg.Undo target redo) is = refl
-none_greeted name (msg.Draw op) is = refl
-none_greeted name (msg.Opaque kind body) is = refl
-
-untaken : (d p : Bool) (e : Entry) (xs : List Entry)
-    → (if d then [] else (if p then xs else e ∷ xs)) ≡ [] → (d ≡ true) ⊎ (p ≡ true)
-untaken true p e xs none = inl refl
-untaken false true e xs none = inr refl
-untaken false false e xs none = absurd (cc (none))
-
--- if nothing is taken of what the link gave, nobody is welcomed
-waits_for : (name : List ℕ) (actions : List JoinAction) (given : List Entry) → takeable given ≡ []
-    → joined name actions given ≡ Waits (caller name)
-waits_for name actions [] none = refl
-waits_for name actions (e ∷ more) none =
-    ap (λ (o : Option Joining). option_map_or (λ j. along actions (takeable more) j) o
-    (Waits (caller name)))
-    (none_greeted name e.msg (untaken (is_disconnect e.msg) (is_ping e.msg) e (takeable more)
-    none))
-
-known_shows : (left : Option (List ℕ)) (old : Source) (given : List Entry) (stop : JoinStop)
-    → IfSome left (λ bytes. HasGiven old bytes []) → ReadsUpTo old given stop
-    → IfSome left (λ bytes. Shows bytes given stop)
-known_shows None old given stop begun reads = tt
-known_shows (Some bytes) old given stop begun reads = reads bytes [] begun refl
-
 -- ---- the Hello
 
 -- memory ran out before the Hello
@@ -207,22 +157,6 @@ hello_cut name left old now source sink sink_now Memory wrote fault = record {
   fault = (refl, fault);
 }
 hello_cut name left old now source sink sink_now (NoEntry why) wrote fault = absurd fault
-
-wrote_hello : (old now : Option (List ℕ)) (hello : List ℕ) (stop : JoinStop)
-    → Appends old now hello → WroteHello old now hello stop
-wrote_hello old now hello WriteFault wrote = grows_whole old now hello wrote
-wrote_hello old now hello LinkFault wrote = grows_whole old now hello wrote
-wrote_hello old now hello Memory wrote = grows_whole old now hello wrote
-wrote_hello old now hello (NoEntry why) wrote = wrote
-
-greeting_fault : (source source_now sink sink_now : ℕ) (stop : JoinStop)
-    → FaultMatchesReading source source_now stop → sink_now ≡ sink
-    → FaultMatchesGreeting source source_now sink sink_now stop
-greeting_fault source source_now sink sink_now WriteFault fault kept = fault
-greeting_fault source source_now sink sink_now LinkFault fault kept =
-    (fault.1, omega arith, inr fault.0)
-greeting_fault source source_now sink sink_now Memory fault kept = (fault, kept)
-greeting_fault source source_now sink sink_now (NoEntry why) fault kept = (fault, kept)
 
 -- nothing was read of the link yet
 pub begun_first : (left : Option (List ℕ)) (faults : ℕ) (reader : Reader)

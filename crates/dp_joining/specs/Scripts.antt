@@ -7,13 +7,8 @@ use Rattle.dp_schedule.specs.declared.join_action.JoinAction.{JoinAction}
 use Rattle.dp_schedule.specs.declared.join_action.JoinAction.TheVariants.{Say, Take, View}
 use Rattle.dp_schedule.specs.declared.join_action.JoinAction.TheVariants.{Confirmed, Snapshot}
 use Rattle.dp_schedule.specs.declared.join_action.JoinAction.TheVariants.{Reset, Chat}
-use Rattle.dp_schedule.specs.JoinGrammar.{Asks}
-use Rattle.dp_script.specs.declared.machine.Undone.{Undone}
-use Rattle.dp_script.specs.declared.machine.Undone.TheVariants as undone
 use Rattle.dp_script.specs.Moments.{Moment}
 use Rattle.dp_joining.specs.declared.stops.JoinStop.{JoinStop}
-use Rattle.dp_joining.specs.declared.stops.JoinStop.TheVariants.{WriteFault, LinkFault, Memory}
-use Rattle.dp_joining.specs.declared.stops.JoinStop.TheVariants.{NoEntry}
 use Rattle.dp_joining.specs.Joining.{Joining, Progress, Goes, Waits, along, came_to, takeable}
 use Rattle.dp_joining.specs.Outcomes.{AllAsk, IsJoinStep}
 use Rattle.dp_joining.specs.Steps.{IsNoEntry, ReadsOn, ReadsUpTo, Seen, Stands, Stops}
@@ -27,14 +22,6 @@ IsSendable Confirmed = ⊤
 IsSendable Snapshot = ⊤
 IsSendable (Reset keeps) = ⊤
 IsSendable Chat = ⊤
-
--- why no action is had of a line: it asks for nothing, or memory ran out
-abbrev pub IsJoinLineRefused : Line → Undone JoinStop → Type 0
-IsJoinLineRefused line undone.NoStep = (action : JoinAction) → ¬ Asks line.bytes action
-IsJoinLineRefused line (undone.Ended WriteFault) = ⊥
-IsJoinLineRefused line (undone.Ended LinkFault) = ⊥
-IsJoinLineRefused line (undone.Ended Memory) = ⊤
-IsJoinLineRefused line (undone.Ended (NoEntry why)) = ⊥
 
 -- all the lines are done, with all the entries
 pub record GoesTo (start now : Seen) (progress : Progress) : Type 0 where

@@ -1,6 +1,8 @@
 -- How a client over a link goes on.
 use Rattle.std.specs.Prelude.{◌≡◌, ◌⊎◌, ℕ, ◌+◌, ◌<◌, ◌≤◌, false, List, [], ◌∷◌, ◌++◌}
 use Rattle.std.specs.Prelude.{length, Option, true, ⊤}
+use Rattle.std.specs.Result.{MatchResult}
+use Rattle.std.specs.declared.result.Result.{Result}
 use Rattle.std.specs.Io.KnownBytes.{Appends}
 use Rattle.circular_buffer.specs.Buffer.{Buffer, buffer, keep_last}
 use Rattle.dp_board.specs.Counts.{CountsFew}
@@ -14,7 +16,6 @@ use Rattle.dp_pixels.specs.Feet.{reach}
 use Rattle.dp_schedule.specs.declared.join_action.JoinAction.{JoinAction}
 use Rattle.dp_script.specs.Counters.{Counters, counters}
 use Rattle.dp_joining.specs.declared.chats.ChatLine.{ChatLine}
-use Rattle.dp_joining.specs.declared.joiner.Joiner.{Joiner}
 use Rattle.dp_joining.specs.declared.stops.JoinStop.{JoinStop}
 use Rattle.dp_joining.specs.declared.stops.JoinStop.TheVariants.{WriteFault, LinkFault, Memory}
 use Rattle.dp_joining.specs.declared.stops.JoinStop.TheVariants.{NoEntry}
@@ -102,9 +103,17 @@ pub record GivesNone (old now : Source) (stop : JoinStop) : Type 0 where
 
 -- ---- the client
 
--- What clauses see of a client over a link and of its output: the client, and the lines of chat
--- that it keeps. What was printed and what was written to the link, if that is known, with counts
--- of faults. Then the link's source, and the counters of draws and of tiles.
+-- What clauses see of a client over a link: the client, and the lines of chat that it keeps. Then
+-- what was written to the link, if that is known, the sink's count of faults, and the source.
+pub record Linked : Type 0 where
+  pub client : State
+  pub chats : Buffer ChatLine
+  pub written : Option (List ℕ)
+  pub write_faults : ℕ
+  pub source : Source
+
+-- What clauses see of a client over a link, of its output and of the counters of draws and of
+-- tiles. Of the output they see what was printed, if that is known, and its count of faults.
 pub record Seen : Type 0 where
   pub client : State
   pub chats : Buffer ChatLine
@@ -119,19 +128,15 @@ pub record Seen : Type 0 where
 abbrev pub source_at : {R : Type 0} → (R → Option (List ℕ)) → (R → ℕ) → Reader → R → Source
 source_at left faults reader rx = record { left = left rx; faults = faults rx; reader = reader }
 
-abbrev pub source_of : {B R S : Type 0} → (R → Option (List ℕ)) → (R → ℕ) → Joiner B R S → Source
-source_of left faults joiner = source_at left faults joiner.reader joiner.rx
-
-abbrev pub seen : {B R S O : Type 0} → (R → Option (List ℕ)) → (R → ℕ) → (S → Option (List ℕ))
-    → (S → ℕ) → (O → Option (List ℕ)) → (O → ℕ) → Joiner B R S → O → ℕ → ℕ → Seen
-seen left read_faults held faults printed print_faults joiner output draws tiles = record {
+abbrev pub seen : {O : Type 0} → (O → Option (List ℕ)) → (O → ℕ) → Linked → O → ℕ → ℕ → Seen
+seen printed print_faults joiner output draws tiles = record {
   client = joiner.client;
   chats = joiner.chats;
   printed = printed output;
   print_faults = print_faults output;
-  written = held joiner.tx;
-  write_faults = faults joiner.tx;
-  source = source_of left read_faults joiner;
+  written = joiner.written;
+  write_faults = joiner.write_faults;
+  source = joiner.source;
   draws = draws;
   tiles = tiles;
 }
@@ -213,17 +218,23 @@ pub record Fails (old now : Seen) (change : Joining → Joining) (stop : JoinSto
   pub not_for_entry : ¬ IsNoEntry stop
   pub stops : StopsOn old now change stop
 
+-- the client makes this change, or fails on the way to it
+abbrev pub Changes : Seen → Seen → (Joining → Joining) → Result Unit JoinStop → Type 0
+Changes old now change result =
+    MatchResult result (λ done. Moves old now change) (Fails old now change)
+
 -- the client may take a further entry: it has taken no more than the link's bytes held
 pub record IsReady (client : State) (source : Source) : Type 0 where
   pub few : length client.taken ≤ source.reader.stream.at
   pub readable : IsReadable source
 
--- a line is done, with these entries of the link
+-- a line is done, with these entries of the link, and the client is ready for the next one
 pub record Passes (old now : Seen) (action : JoinAction) : Type 0 where
   pub given : List Entry
   pub reads : ReadsOn old.source now.source given
   pub many : length (takeable given) ≡ asked_by action
   pub moves : Moves old now (after_line action (takeable given))
+  pub ready : IsReady now.client now.source
 
 -- a line is stopped so, after these entries of the link
 pub record Halts (old now : Seen) (action : JoinAction) (stop : JoinStop) : Type 0 where
@@ -232,3 +243,8 @@ pub record Halts (old now : Seen) (action : JoinAction) (stop : JoinStop) : Type
   pub few : length (takeable given) ≤ asked_by action
   pub waits : IsNoEntry stop → length (takeable given) < asked_by action
   pub stops : StopsOn old now (after_line action (takeable given)) stop
+
+-- the client does a line, or is stopped in it
+abbrev pub Does : Seen → Seen → JoinAction → Result Unit JoinStop → Type 0
+Does old now action result =
+    MatchResult result (λ done. Passes old now action) (Halts old now action)

@@ -1,9 +1,11 @@
 //! Lines of chat.
 
-ghost use Rattle.std.specs.Prelude.{◌≡◌, ◌++◌, length, IfOk, OnOk};
+ghost use Rattle.std.specs.Prelude.{◌≡◌, ◌++◌, List, length, IfOk, OnOk};
 ghost use Rattle.std.specs.Prelude.{option_to_list};
 ghost use Rattle.std.specs.List.{flat_map};
-ghost use Rattle.dp_joining.specs.Joining.{chat_by, chat_line, chats_text};
+ghost use Rattle.circular_buffer.specs.Buffer.{buffer, keep_last};
+ghost use Rattle.dp_joining.specs.declared.chats.ChatLine.{ChatLine as Chat};
+ghost use Rattle.dp_joining.specs.Joining.{chat_by, chat_limit, chat_line, chats_text};
 
 use circular_buffer::HeapCircularBuffer;
 use dp_lines::{put_hex, put_number};
@@ -33,6 +35,22 @@ pub(crate) fn chat_of(entry: &Entry) -> Result<Option<ChatLine>, AllocError>
         })),
         _ => Ok(None),
     }
+}
+
+/// Keeps the line of chat of an entry, if it is one.
+pub(crate) fn keep_chat(
+    entry: &Entry,
+    chats: &mut HeapCircularBuffer<ChatLine>,
+) -> Result<(), AllocError>
+    ensures { OnOk result ((lines : List Chat)
+        → chats.old ≡ buffer (keep_last chat_limit lines) chat_limit
+        → chats.new ≡ buffer
+        (keep_last chat_limit (lines ++ chat_by entry.now.user entry.now.msg)) chat_limit) }
+{
+    if let Some(line) = chat_of(entry)? {
+        let _oldest = chats.push_back(line);
+    }
+    Ok(())
 }
 
 /// The text of the lines that are kept.

@@ -1,50 +1,59 @@
 //! A client over a link.
 
-ghost use Rattle.std.specs.Prelude.{◌≡◌, ◌+◌, ◌-◌, ◌^◌, ◌<◌, ◌≤◌, ℕ, List, [], ◌∷◌, ◌++◌, length};
-ghost use Rattle.std.specs.Prelude.{IfOk, IfErr, OnOk};
-ghost use Rattle.std.specs.Io.KnownBytes.{Appends};
-ghost use Rattle.circular_buffer.specs.Buffer.{buffer, keep_last};
-ghost use Rattle.dp_io.specs.Streams.{GrowsByPrefix};
+ghost use Rattle.std.specs.Prelude.{◌≡◌, ◌+◌, ◌-◌, ◌^◌, ◌<◌, ◌≤◌, ℕ, length, IfOk, IfErr, OnOk};
+ghost use Rattle.circular_buffer.specs.Buffer.{keep_last};
 ghost use Rattle.dp_messages.specs.Messages.{kind_of};
 ghost use Rattle.dp_schedule.specs.declared.join_action.JoinAction.TheVariants as action;
 ghost use Rattle.dp_showing.specs.Showing.{shown_text};
-ghost use Rattle.dp_joining.specs.declared.chats.ChatLine.{ChatLine as Chat};
-ghost use Rattle.dp_joining.specs.Joining.{ack_bytes, chat_by, chat_limit, chats_text, printed};
+ghost use Rattle.dp_joining.specs.Joining.{chat_limit, chats_text, printed};
 ghost use Rattle.dp_joining.specs.Joining.{reset_by, said_by, took_entry};
 ghost use Rattle.dp_joining.specs.Scripts.{IsSendable};
-ghost use Rattle.dp_joining.specs.Steps.{FaultMatchesWriting, Fails, GivesEntry, GivesNone, Halts};
-ghost use Rattle.dp_joining.specs.Steps.{IsReadable, IsReady, Moves, Passes, ReadsOn, seen};
-ghost use Rattle.dp_joining.specs.Steps.{source_of};
+ghost use Rattle.dp_joining.specs.Steps.{Changes, Does, GivesEntry, GivesNone, IsReadable, IsReady};
+ghost use Rattle.dp_joining.specs.Steps.{seen};
 
-use crate::chats::{ChatLine, chat_of};
-use crate::join_standing::{JoinStanding, is_ping};
+use crate::chats::{ChatLine, keep_chat};
+use crate::join_standing::JoinStanding;
 use crate::printing::{print_chats, print_line, print_sent, print_shown};
-use crate::pulling::pull;
-use crate::sending::{send, send_entry, send_reset};
+use crate::pulling::pull_taken;
+use crate::sending::{acknowledge, send_client, send_entry};
 use crate::stops::JoinStop;
 use circular_buffer::HeapCircularBuffer;
 use dp_client::Client;
 use dp_entries::EntryReader;
 use dp_io::{Sink, Source};
 use dp_messages::{Entry, Msg};
-use dp_msg_meta::Control;
 use dp_schedule::{JoinAction, ReportLine};
 use dp_showing::{Shown, clients_show};
 use dp_shown::ClientBoard;
-use dp_snap::{reset_begin, snapshot};
 use dp_steps::Steps;
 use std::alloc::Global;
+use std::marker::Model;
 use std::sync::ledger::Ledger;
 
-/// A client over a link, of which the source and the sink are its own.
+/// A client over a link, of which the source and the sink are its own. Contracts see what the
+/// link's streams show.
 #[derive(Drop)]
-pub(crate) struct Joiner<B: ClientBoard, R, S> {
+pub(crate) struct Joiner<B: ClientBoard, R: Source, S: Sink> {
     pub alloc: Global,
     pub client: Client<B>,
     pub chats: HeapCircularBuffer<ChatLine>,
     pub reader: EntryReader<JoinStanding>,
     pub rx: R,
     pub tx: S,
+}
+
+impl<B: ClientBoard, R: Source, S: Sink> Model for Joiner<B, R, S> {
+    ghost use Rattle.dp_joining.specs.Steps.{Linked, source_at};
+
+    ghost Value = { Linked };
+
+    ghost view = { λ j. record {
+      client = j.client;
+      chats = j.chats;
+      written = S.held j.tx;
+      write_faults = S.faults j.tx;
+      source = source_at R.left R.faults j.reader j.rx;
+    } };
 }
 
 impl<B: ClientBoard, R: Source, S: Sink> Joiner<B, R, S> {
@@ -56,22 +65,10 @@ impl<B: ClientBoard, R: Source, S: Sink> Joiner<B, R, S> {
         draws: &mut Steps<D>,
         tiles: &mut Steps<T>,
     ) -> Result<(), JoinStop>
-        requires ready { IsReady self.old.client (source_of R.left R.faults self.old) }
+        requires ready { IsReady self.old.client self.old.source }
         requires sendable { IsSendable action }
-        ensures ready { OnOk result
-            (IsReady self.new.client (source_of R.left R.faults self.new)) }
-        ensures ok { OnOk result (Passes
-            (seen R.left R.faults S.held S.faults O.held O.faults self.old output.old
-            draws.old tiles.old)
-            (seen R.left R.faults S.held S.faults O.held O.faults self.new output.new
-            draws.new tiles.new)
-            action) }
-        ensures err { IfErr result (Halts
-            (seen R.left R.faults S.held S.faults O.held O.faults self.old output.old
-            draws.old tiles.old)
-            (seen R.left R.faults S.held S.faults O.held O.faults self.new output.new
-            draws.new tiles.new)
-            action) }
+        ensures { Does (seen O.held O.faults self.old output.old draws.old tiles.old)
+            (seen O.held O.faults self.new output.new draws.new tiles.new) action result }
     {
         match action {
             JoinAction::Say(msg) => self.say(msg, output, draws, tiles),
@@ -93,21 +90,11 @@ impl<B: ClientBoard, R: Source, S: Sink> Joiner<B, R, S> {
         tiles: &mut Steps<T>,
     ) -> Result<(), JoinStop>
         requires { 32 ≤ kind_of msg }
-        ensures ok { OnOk result (Moves
-            (seen R.left R.faults S.held S.faults O.held O.faults self.old output.old
-            draws.old tiles.old)
-            (seen R.left R.faults S.held S.faults O.held O.faults self.new output.new
-            draws.new tiles.new)
-            (λ j. said_by j msg)) }
-        ensures err { IfErr result (Fails
-            (seen R.left R.faults S.held S.faults O.held O.faults self.old output.old
-            draws.old tiles.old)
-            (seen R.left R.faults S.held S.faults O.held O.faults self.new output.new
-            draws.new tiles.new)
-            (λ j. said_by j msg)) }
+        ensures changes { Changes (seen O.held O.faults self.old output.old draws.old tiles.old)
+            (seen O.held O.faults self.new output.new draws.new tiles.new)
+            (λ j. said_by j msg) result }
         ensures taken { OnOk result (self.new.client.taken ≡ self.old.client.taken) }
-        ensures reader { self.new.reader ≡ self.old.reader }
-        ensures rx { self.new.rx ≡ self.old.rx }
+        ensures source { self.new.source ≡ self.old.source }
     {
         clients_show::<B>();
         let user = self.client.user();
@@ -126,21 +113,10 @@ impl<B: ClientBoard, R: Source, S: Sink> Joiner<B, R, S> {
         draws: &mut Steps<D>,
         tiles: &mut Steps<T>,
     ) -> Result<(), JoinStop>
-        requires { IsReady self.old.client (source_of R.left R.faults self.old) }
-        ensures ready { OnOk result
-            (IsReady self.new.client (source_of R.left R.faults self.new)) }
-        ensures ok { OnOk result (Passes
-            (seen R.left R.faults S.held S.faults O.held O.faults self.old output.old
-            draws.old tiles.old)
-            (seen R.left R.faults S.held S.faults O.held O.faults self.new output.new
-            draws.new tiles.new)
-            (action.Take count)) }
-        ensures err { IfErr result (Halts
-            (seen R.left R.faults S.held S.faults O.held O.faults self.old output.old
-            draws.old tiles.old)
-            (seen R.left R.faults S.held S.faults O.held O.faults self.new output.new
-            draws.new tiles.new)
-            (action.Take count)) }
+        requires { IsReady self.old.client self.old.source }
+        ensures { Does (seen O.held O.faults self.old output.old draws.old tiles.old)
+            (seen O.held O.faults self.new output.new draws.new tiles.new)
+            (action.Take count) result }
     {
         for _taken in 0..count {
             let entry = self.next_entry()?;
@@ -158,28 +134,18 @@ impl<B: ClientBoard, R: Source, S: Sink> Joiner<B, R, S> {
         tiles: &mut Steps<T>,
     ) -> Result<(), JoinStop>
         requires { length self.old.client.taken < 2 ^ 32 - 1 }
-        ensures ok { OnOk result (Moves
-            (seen R.left R.faults S.held S.faults O.held O.faults self.old output.old
-            draws.old tiles.old)
-            (seen R.left R.faults S.held S.faults O.held O.faults self.new output.new
-            draws.new tiles.new)
-            (λ j. took_entry j entry.now)) }
-        ensures err { IfErr result (Fails
-            (seen R.left R.faults S.held S.faults O.held O.faults self.old output.old
-            draws.old tiles.old)
-            (seen R.left R.faults S.held S.faults O.held O.faults self.new output.new
-            draws.new tiles.new)
-            (λ j. took_entry j entry.now)) }
+        ensures changes { Changes (seen O.held O.faults self.old output.old draws.old tiles.old)
+            (seen O.held O.faults self.new output.new draws.new tiles.new)
+            (λ j. took_entry j entry.now) result }
         ensures taken { OnOk result
             (length self.new.client.taken ≤ length self.old.client.taken + 1) }
-        ensures reader { self.new.reader ≡ self.old.reader }
-        ensures rx { self.new.rx ≡ self.old.rx }
+        ensures source { self.new.source ≡ self.old.source }
     {
         clients_show::<B>();
         let user = self.client.user();
         let taken = self.client.take(entry, draws, tiles)?;
-        self.acknowledge(user, taken.ack)?;
-        self.keep_chat(entry)?;
+        acknowledge(self.alloc, user, taken.ack, &mut self.tx)?;
+        keep_chat(entry, &mut self.chats)?;
         let line = ReportLine::Took {
             epoch: taken.epoch,
             at: taken.at,
@@ -187,74 +153,21 @@ impl<B: ClientBoard, R: Source, S: Sink> Joiner<B, R, S> {
         print_line(self.alloc, line, output)
     }
 
-    /// Acknowledges the epoch, if one is to be.
-    fn acknowledge(&mut self, user: u8, ack: Option<u32>) -> Result<(), JoinStop>
-        ensures written { OnOk result
-            (Appends (S.held self.old.tx) (S.held self.new.tx) (ack_bytes user ack)) }
-        ensures prefix { GrowsByPrefix (S.held self.old.tx) (S.held self.new.tx)
-            (ack_bytes user ack) }
-        ensures kept { OnOk result (S.faults self.new.tx ≡ S.faults self.old.tx) }
-        ensures fault { IfErr result
-            (FaultMatchesWriting (S.faults self.old.tx) (S.faults self.new.tx)) }
-        ensures same { self.new ≡ record self.old { tx = self.new.tx } }
-    {
-        match ack {
-            Some(epoch) => {
-                let msg = Msg::Control(Control::Ack { epoch });
-                send(self.alloc, user, msg, &mut self.tx)
-            }
-            None => Ok(()),
-        }
-    }
-
-    /// Keeps the line of chat of an entry, if it is one.
-    fn keep_chat(&mut self, entry: &Entry) -> Result<(), JoinStop>
-        ensures kept { OnOk result ((chats : List Chat)
-            → self.old.chats ≡ buffer (keep_last chat_limit chats) chat_limit
-            → self.new.chats ≡ buffer
-            (keep_last chat_limit (chats ++ chat_by entry.now.user entry.now.msg)) chat_limit) }
-        ensures memory { IfErr result (λ stop. stop ≡ JoinStop.Memory) }
-        ensures same { self.new ≡ record self.old { chats = self.new.chats } }
-    {
-        if let Some(line) = chat_of(entry)? {
-            let _oldest = self.chats.push_back(line);
-        }
-        Ok(())
-    }
-
     /// The next entry of the link that is no Ping.
     fn next_entry(&mut self) -> Result<Entry, JoinStop>
-        requires { IsReadable (source_of R.left R.faults self.old) }
-        ensures ok { IfOk result (GivesEntry (source_of R.left R.faults self.old)
-            (source_of R.left R.faults self.new)) }
-        ensures err { IfErr result (GivesNone (source_of R.left R.faults self.old)
-            (source_of R.left R.faults self.new)) }
-        ensures client { self.new.client ≡ self.old.client }
-        ensures chats { self.new.chats ≡ self.old.chats }
-        ensures sink { self.new.tx ≡ self.old.tx }
+        requires { IsReadable self.old.source }
+        ensures ok { IfOk result (GivesEntry self.old.source self.new.source) }
+        ensures err { IfErr result (GivesNone self.old.source self.new.source) }
+        ensures same { self.new ≡ record self.old { source = self.new.source } }
     {
-        'pings: loop {
-            let entry = pull(self.alloc, &mut self.reader, &mut self.rx)?;
-            if !is_ping(&entry.msg) {
-                return Ok(entry);
-            }
-        }
+        pull_taken(self.alloc, &mut self.reader, &mut self.rx)
     }
 
     /// Prints what is shown of the client.
     fn show<O: Sink>(&self, shown: Shown, output: &mut O) -> Result<(), JoinStop>
-        ensures ok { (draws tiles : ℕ) → OnOk result (Moves
-            (seen R.left R.faults S.held S.faults O.held O.faults self.now output.old draws
-            tiles)
-            (seen R.left R.faults S.held S.faults O.held O.faults self.now output.new draws
-            tiles)
-            (λ j. printed j (shown_text shown j.client))) }
-        ensures err { (draws tiles : ℕ) → IfErr result (Fails
-            (seen R.left R.faults S.held S.faults O.held O.faults self.now output.old draws
-            tiles)
-            (seen R.left R.faults S.held S.faults O.held O.faults self.now output.new draws
-            tiles)
-            (λ j. printed j (shown_text shown j.client))) }
+        ensures { (draws tiles : ℕ) → Changes (seen O.held O.faults self.now output.old draws tiles)
+            (seen O.held O.faults self.now output.new draws tiles)
+            (λ j. printed j (shown_text shown j.client)) result }
     {
         print_shown(self.alloc, &self.client, shown, output)
     }
@@ -262,46 +175,37 @@ impl<B: ClientBoard, R: Source, S: Sink> Joiner<B, R, S> {
     /// Sends the confirmed canvas as a reset, one that keeps what comes after that or not.
     fn reset<O: Sink>(&mut self, keeps: bool, output: &mut O) -> Result<(), JoinStop>
         requires { length self.old.client.taken < 2 ^ 32 }
-        ensures ok { (draws tiles : ℕ) → OnOk result (Moves
-            (seen R.left R.faults S.held S.faults O.held O.faults self.old output.old draws
-            tiles)
-            (seen R.left R.faults S.held S.faults O.held O.faults self.new output.new draws
-            tiles)
-            (λ j. reset_by keeps j)) }
-        ensures err { (draws tiles : ℕ) → IfErr result (Fails
-            (seen R.left R.faults S.held S.faults O.held O.faults self.old output.old draws
-            tiles)
-            (seen R.left R.faults S.held S.faults O.held O.faults self.new output.new draws
-            tiles)
-            (λ j. reset_by keeps j)) }
+        ensures changes { (draws tiles : ℕ) → Changes
+            (seen O.held O.faults self.old output.old draws tiles)
+            (seen O.held O.faults self.new output.new draws tiles) (λ j. reset_by keeps j) result }
         ensures client { self.new.client ≡ self.old.client }
-        ensures reader { self.new.reader ≡ self.old.reader }
-        ensures rx { self.new.rx ≡ self.old.rx }
+        ensures source { self.new.source ≡ self.old.source }
     {
-        clients_show::<B>();
-        let user = self.client.user();
-        let commands = snapshot(self.alloc, self.client.confirmed())?;
-        let commands = commands.as_slice();
-        let begin = reset_begin(keeps, self.client.taken().len() as u32);
-        send_reset(self.alloc, user, begin, commands, &mut self.tx)?;
-        print_sent(self.alloc, commands.len() + 2, output)
+        let count = send_client(self.alloc, &self.client, keeps, &mut self.tx)?;
+        print_sent(self.alloc, count, output)
     }
 
     /// Prints the lines of chat that are kept.
     fn print_chats<O: Sink>(&self, output: &mut O) -> Result<(), JoinStop>
-        ensures ok { (draws tiles : ℕ) → OnOk result (Moves
-            (seen R.left R.faults S.held S.faults O.held O.faults self.now output.old draws
-            tiles)
-            (seen R.left R.faults S.held S.faults O.held O.faults self.now output.new draws
-            tiles)
-            (λ j. printed j (chats_text (keep_last chat_limit j.chats)))) }
-        ensures err { (draws tiles : ℕ) → IfErr result (Fails
-            (seen R.left R.faults S.held S.faults O.held O.faults self.now output.old draws
-            tiles)
-            (seen R.left R.faults S.held S.faults O.held O.faults self.now output.new draws
-            tiles)
-            (λ j. printed j (chats_text (keep_last chat_limit j.chats)))) }
+        ensures { (draws tiles : ℕ) → Changes (seen O.held O.faults self.now output.old draws tiles)
+            (seen O.held O.faults self.now output.new draws tiles)
+            (λ j. printed j (chats_text (keep_last chat_limit j.chats))) result }
     {
         print_chats(self.alloc, &self.chats, output)
+    }
+
+    /// What its memory comes of.
+    pub fn alloc(&self) -> Global {
+        self.alloc
+    }
+
+    /// The link, which it gives back.
+    pub fn into_link(self) -> (R, S)
+        ensures source { R.faults result.0 ≡ self.source.faults }
+        ensures sink { S.faults result.1 ≡ self.write_faults }
+        ensures held { S.held result.1 ≡ self.written }
+    {
+        let Joiner { rx, tx, .. } = self;
+        (rx, tx)
     }
 }

@@ -7,7 +7,7 @@ ghost use Rattle.dp_script.specs.Counters.{counters};
 ghost use Rattle.dp_joining.specs.Leaves.{FaultMatchesJoin, IsWelcome, JoinLeaves};
 ghost use Rattle.dp_joining.specs.Leaves.{ReadsNoFurther, WaitsUnread};
 ghost use Rattle.dp_joining.specs.Partings.{TakesLeave, SaysFarewell};
-ghost use Rattle.dp_joining.specs.Steps.{IsReady, Seen, seen, source_of};
+ghost use Rattle.dp_joining.specs.Steps.{IsReady, Seen, seen, source_at};
 
 use crate::greeting::{Greeting, greet};
 use crate::joiner::Joiner;
@@ -109,17 +109,19 @@ pub fn join_link<
 }
 
 /// The client over its link.
-fn joiner_of<B: ClientBoard, R, S>(
+fn joiner_of<B: ClientBoard, R: Source, S: Sink>(
     alloc: Global,
     greeting: Greeting<B>,
     rx: R,
     tx: S,
 ) -> Joiner<B, R, S>
-    ensures client { result.client ≡ greeting.client }
-    ensures chats { result.chats ≡ greeting.chats }
-    ensures reader { result.reader ≡ greeting.reader }
-    ensures rx { result.rx ≡ rx }
-    ensures tx { result.tx ≡ tx }
+    ensures { result ≡ record {
+      client = greeting.client;
+      chats = greeting.chats;
+      written = S.held tx;
+      write_faults = S.faults tx;
+      source = source_at R.left R.faults greeting.reader rx;
+    } }
 {
     let Greeting {
         client,
@@ -152,11 +154,10 @@ fn do_script<
     draws: &mut Steps<D>,
     tiles: &mut Steps<T>,
 ) -> Joined<R, S>
-    requires { IsReady joiner.client (source_of R.left R.faults joiner) }
+    requires { IsReady joiner.client joiner.source }
     ensures leaves { (name : List ℕ) (link : Option (List ℕ)) (first : Seen) (welcome : Item)
         → IsWelcome name link first
-        (seen R.left R.faults S.held S.faults O.held O.faults joiner output.old
-        draws.old tiles.old) welcome
+        (seen O.held O.faults joiner output.old draws.old tiles.old) welcome
         → JoinLeaves name (record {
           input = I.left input.old;
           left = I.left input.new;
@@ -170,8 +171,7 @@ fn do_script<
     ensures took { ReadsNoFurther (I.left input.old) (I.left input.new) }
     ensures fault { (name : List ℕ) (link : Option (List ℕ)) (first : Seen) (welcome : Item)
         → IsWelcome name link first
-        (seen R.left R.faults S.held S.faults O.held O.faults joiner output.old
-        draws.old tiles.old) welcome
+        (seen O.held O.faults joiner output.old draws.old tiles.old) welcome
         → FaultMatchesJoin (record {
           input = I.faults input.old;
           output = first.print_faults;
@@ -186,13 +186,12 @@ fn do_script<
     ensures input_later { I.faults input.old ≤ I.faults input.new }
     ensures output_later { (name : List ℕ) (link : Option (List ℕ)) (first : Seen) (welcome : Item)
         → IsWelcome name link first
-        (seen R.left R.faults S.held S.faults O.held O.faults joiner output.old
-        draws.old tiles.old) welcome
+        (seen O.held O.faults joiner output.old draws.old tiles.old) welcome
         → first.print_faults ≤ O.faults output.new }
 {
     further_step::<Joiner<B, R, S>>();
     let mut joiner = joiner;
-    let alloc = joiner.alloc;
+    let alloc = joiner.alloc();
     let ended = run_lines(
         alloc,
         SCRIPT_LIMIT,
@@ -203,7 +202,7 @@ fn do_script<
         tiles,
     );
     let end = leave(&mut joiner, ended);
-    let Joiner { rx, tx, .. } = joiner;
+    let (rx, tx) = joiner.into_link();
     Joined { end, rx, tx }
 }
 
@@ -212,9 +211,9 @@ fn leave<B: ClientBoard, R: Source, S: Sink>(
     joiner: &mut Joiner<B, R, S>,
     ended: ScriptEnd<JoinStop>,
 ) -> RunEnd
-    ensures parts { TakesLeave (S.held joiner.old.tx) (S.held joiner.new.tx)
-        (S.faults joiner.old.tx) (S.faults joiner.new.tx) joiner.old.client.user ended result }
-    ensures source { joiner.new.rx ≡ joiner.old.rx }
+    ensures parts { TakesLeave joiner.old.written joiner.new.written
+        joiner.old.write_faults joiner.new.write_faults joiner.old.client.user ended result }
+    ensures source { joiner.new.source ≡ joiner.old.source }
 {
     match ended {
         ScriptEnd::Done => farewell(joiner),
@@ -228,9 +227,9 @@ fn leave<B: ClientBoard, R: Source, S: Sink>(
 
 /// Says that the client leaves. How the run ends.
 fn farewell<B: ClientBoard, R: Source, S: Sink>(joiner: &mut Joiner<B, R, S>) -> RunEnd
-    ensures says { SaysFarewell (S.held joiner.old.tx) (S.held joiner.new.tx)
-        (S.faults joiner.old.tx) (S.faults joiner.new.tx) joiner.old.client.user result }
-    ensures source { joiner.new.rx ≡ joiner.old.rx }
+    ensures says { SaysFarewell joiner.old.written joiner.new.written
+        joiner.old.write_faults joiner.new.write_faults joiner.old.client.user result }
+    ensures source { joiner.new.source ≡ joiner.old.source }
 {
     let user = joiner.client.user();
     let msg = Msg::Control(Control::Disconnect { reason: LEAVING });

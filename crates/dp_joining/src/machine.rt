@@ -1,21 +1,16 @@
 //! The lines of a script, done by a client over a link.
 
-ghost use Rattle.std.specs.Prelude.{IfOk, IfErr};
-ghost use Rattle.dp_schedule.specs.JoinGrammar.{Asks};
-ghost use Rattle.dp_joining.specs.Scripts.{IsJoinLineRefused, IsSendable};
-
 use crate::joiner::Joiner;
 use crate::stops::JoinStop;
 use dp_io::{Sink, Source};
 use dp_lines::Line;
-use dp_schedule::{JoinAction, one_action, one_join_action, read_join_action};
+use dp_schedule::{one_action, read_join_action};
 use dp_script::{LineMachine, Undone};
 use dp_shown::ClientBoard;
 use dp_steps::Steps;
-use std::alloc::Global;
 use std::sync::ledger::Ledger;
 
-impl<B: ClientBoard, R, S> dp_lines::StepRule for Joiner<B, R, S> {
+impl<B: ClientBoard, R: Source, S: Sink> dp_lines::StepRule for Joiner<B, R, S> {
     ghost use Rattle.dp_joining.specs.Outcomes.{IsJoinStep};
 
     ghost is_step = { IsJoinStep };
@@ -27,15 +22,15 @@ impl<B: ClientBoard, R: Source, S: Sink, O: Sink, D: Ledger, T: Ledger> LineMach
     Steps<T>,
 > for Joiner<B, R, S> {
     ghost use Rattle.dp_joining.specs.Scripts.{HasDone, HasEnded};
-    ghost use Rattle.dp_joining.specs.Steps.{IsReady, seen, source_of};
+    ghost use Rattle.dp_joining.specs.Steps.{IsReady, seen};
 
     type End = JoinStop;
 
-    ghost is_ready = { λ joiner. IsReady joiner.client (source_of R.left R.faults joiner) };
+    ghost is_ready = { λ joiner. IsReady joiner.client joiner.source };
 
-    ghost has_done = { HasDone (seen R.left R.faults S.held S.faults O.held O.faults) };
+    ghost has_done = { HasDone (seen O.held O.faults) };
 
-    ghost has_ended = { HasEnded (seen R.left R.faults S.held S.faults O.held O.faults) };
+    ghost has_ended = { HasEnded (seen O.held O.faults) };
 
     fn do_line(
         &mut self,
@@ -44,27 +39,14 @@ impl<B: ClientBoard, R: Source, S: Sink, O: Sink, D: Ledger, T: Ledger> LineMach
         draws: &mut Steps<D>,
         tiles: &mut Steps<T>,
     ) -> Result<(), Undone<JoinStop>> {
-        one_join_action();
-        let action = action_of(self.alloc, line)?;
-        match self.act(action, output, draws, tiles) {
-            Ok(()) => Ok(()),
-            Err(stop) => Err(Undone::Ended(stop)),
+        one_action();
+        match read_join_action(self.alloc(), line.bytes.as_slice()) {
+            Ok(Some(action)) => match self.act(action, output, draws, tiles) {
+                Ok(()) => Ok(()),
+                Err(stop) => Err(Undone::Ended(stop)),
+            },
+            Ok(None) => Err(Undone::NoStep),
+            Err(_full) => Err(Undone::Ended(JoinStop::Memory)),
         }
-    }
-}
-
-/// What the line asks for. An error if it asks for nothing.
-fn action_of(alloc: Global, line: &Line) -> Result<JoinAction, Undone<JoinStop>>
-    ensures asks { IfOk result (Asks line.now.bytes) }
-    ensures sendable { IfOk result IsSendable }
-    ensures refused { IfErr result (IsJoinLineRefused line.now) }
-{
-    one_action();
-    let Ok(asked) = read_join_action(alloc, line.bytes.as_slice()) else {
-        return Err(Undone::Ended(JoinStop::Memory));
-    };
-    match asked {
-        Some(action) => Ok(action),
-        None => Err(Undone::NoStep),
     }
 }

@@ -7,7 +7,7 @@ use Rattle.dp_messages.specs.declared.message.Msg.TheVariants as msg
 use Rattle.dp_showing.proofs.Pieces.{prefix_is, written_both, written_is}
 use Rattle.dp_joining.specs.Joining.{sent_by}
 use Rattle.dp_snap.specs.Resets.{reset_messages}
-use Rattle.dp_joining.proofs.Moving.{reset_bytes}
+use Rattle.dp_joining.proofs.Resets.{reset_bytes}
 use Rattle.dp_joining.proofs.sending.send_reset.Goals as goal
 
 pub returns-in_err-send-clause-prefix : goal.returns-in_err-send-clause-prefix

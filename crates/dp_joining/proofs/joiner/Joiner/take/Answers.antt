@@ -1,98 +1,69 @@
-use Rattle.std.proofs.Common.{arith, ap, refl, length}
+use Rattle.std.proofs.Common.{arith, ap, length}
 use Rattle.std.proofs.lemmas.Result.{err_from_is_err_and}
-use Rattle.dp_client.specs.Client.{State}
-use Rattle.dp_joining.specs.Steps.{seen}
-use Rattle.dp_joining.proofs.Acting.{source_same}
+use Rattle.dp_joining.specs.Steps.{Linked, seen}
 use Rattle.dp_joining.proofs.Taking.{IsRead, taking_ends, taking_fails, taking_more, taking_none}
 use Rattle.dp_joining.proofs.joiner.Joiner.take.Goals as goal
 
 pub loop-taken-init : goal.loop-taken-init
 loop-taken-init g c =
-    let see = seen g.R.Source.left g.R.Source.faults g.S.Sink.held g.S.Sink.faults g.O.Sink.held
-    g.O.Sink.faults in
-    taking_none (see c.args.self.now c.args.output.now c.args.draws.now c.args.tiles.now) c.requires
+    taking_none (seen g.O.Sink.held g.O.Sink.faults c.args.self.now c.args.output.now
+    c.args.draws.now c.args.tiles.now) c.requires
 
 pub next_entry-requires : goal.next_entry-requires
 next_entry-requires g c = c.loop-taken.invariant.ready.readable
 
 pub take_entry-requires : goal.take_entry-requires
 take_entry-requires g c =
-    let same = ap (λ (s : State). length s.taken) c.in_ok-entry.ensures.client in
+    let same = ap (λ (j : Linked). length j.client.taken) c.in_ok-entry.ensures.same in
     let few = c.loop-taken.invariant.ready.few in
     let within = c.loop-taken.invariant.ready.readable.within in
     omega arith
 
 pub loop-taken-preserved : goal.loop-taken-preserved
 loop-taken-preserved g c =
-    let see = seen g.R.Source.left g.R.Source.faults g.S.Sink.held g.S.Sink.faults g.O.Sink.held
-    g.O.Sink.faults in
+    let see = seen g.O.Sink.held g.O.Sink.faults in
     let first = see c.args.self.now c.args.output.now c.args.draws.now c.args.tiles.now in
     let before = see c.loop-taken.self c.loop-taken.output c.loop-taken.draws c.loop-taken.tiles in
     let given = see c.next_entry.new.self c.loop-taken.output c.loop-taken.draws c.loop-taken.tiles
     in
-    let read : IsRead before given = record {
-      client = c.in_ok-entry.ensures.client;
-      chats = c.in_ok-entry.ensures.chats;
-      printed = refl;
-      print_faults = refl;
-      written = ap g.S.Sink.held c.in_ok-entry.ensures.sink;
-      write_faults = ap g.S.Sink.faults c.in_ok-entry.ensures.sink;
-      draws = refl;
-      tiles = refl;
-    } in
+    let read : IsRead before given =
+    ap (λ (j : Linked). see j c.loop-taken.output c.loop-taken.draws c.loop-taken.tiles)
+    c.in_ok-entry.ensures.same in
     taking_more first before given (see c.take_entry.new.self c.take_entry.new.output
     c.take_entry.new.draws c.take_entry.new.tiles)
     c.loop-taken._taken c.in_ok-entry.entry c.loop-taken.invariant c.in_ok-entry.ensures.ok read
-    c.in_ok-take_entry.ensures.ok c.in_ok-take_entry.ensures.taken
-    (source_same g.R.Source.left g.R.Source.faults c.next_entry.new.self.reader
-    c.take_entry.new.self.reader c.next_entry.new.self.rx c.take_entry.new.self.rx
-    c.in_ok-take_entry.ensures.reader c.in_ok-take_entry.ensures.rx)
+    c.in_ok-take_entry.ensures.changes c.in_ok-take_entry.ensures.taken
+    c.in_ok-take_entry.ensures.source
 
-pub returns-in_err-entry-clause-err : goal.returns-in_err-entry-clause-err
-returns-in_err-entry-clause-err g c =
-    let see = seen g.R.Source.left g.R.Source.faults g.S.Sink.held g.S.Sink.faults g.O.Sink.held
-    g.O.Sink.faults in
+pub returns-in_err-entry : goal.returns-in_err-entry
+returns-in_err-entry g c =
+    let see = seen g.O.Sink.held g.O.Sink.faults in
     let first = see c.args.self.now c.args.output.now c.args.draws.now c.args.tiles.now in
     let before = see c.loop-taken.self c.loop-taken.output c.loop-taken.draws c.loop-taken.tiles in
     let given = see c.next_entry.new.self c.loop-taken.output c.loop-taken.draws c.loop-taken.tiles
     in
-    let read : IsRead before given = record {
-      client = c.in_err-entry.ensures.client;
-      chats = c.in_err-entry.ensures.chats;
-      printed = refl;
-      print_faults = refl;
-      written = ap g.S.Sink.held c.in_err-entry.ensures.sink;
-      write_faults = ap g.S.Sink.faults c.in_err-entry.ensures.sink;
-      draws = refl;
-      tiles = refl;
-    } in
+    let read : IsRead before given =
+    ap (λ (j : Linked). see j c.loop-taken.output c.loop-taken.draws c.loop-taken.tiles)
+    c.in_err-entry.ensures.same in
     let p = err_from_is_err_and c.from_residual.result c.from_residual.ensures.1 in
     rw (p.1, p.2) (taking_ends first before given c.args.count c.loop-taken._taken
     c.in_err-entry.field-0.0 c.loop-taken-test.true c.loop-taken.invariant
     c.in_err-entry.ensures.err read)
 
-pub returns-in_err-take_entry-clause-err : goal.returns-in_err-take_entry-clause-err
-returns-in_err-take_entry-clause-err g c =
-    let see = seen g.R.Source.left g.R.Source.faults g.S.Sink.held g.S.Sink.faults g.O.Sink.held
-    g.O.Sink.faults in
+pub returns-in_err-take_entry : goal.returns-in_err-take_entry
+returns-in_err-take_entry g c =
+    let see = seen g.O.Sink.held g.O.Sink.faults in
     let first = see c.args.self.now c.args.output.now c.args.draws.now c.args.tiles.now in
     let before = see c.loop-taken.self c.loop-taken.output c.loop-taken.draws c.loop-taken.tiles in
     let given = see c.next_entry.new.self c.loop-taken.output c.loop-taken.draws c.loop-taken.tiles
     in
-    let read : IsRead before given = record {
-      client = c.in_ok-entry.ensures.client;
-      chats = c.in_ok-entry.ensures.chats;
-      printed = refl;
-      print_faults = refl;
-      written = ap g.S.Sink.held c.in_ok-entry.ensures.sink;
-      write_faults = ap g.S.Sink.faults c.in_ok-entry.ensures.sink;
-      draws = refl;
-      tiles = refl;
-    } in
+    let read : IsRead before given =
+    ap (λ (j : Linked). see j c.loop-taken.output c.loop-taken.draws c.loop-taken.tiles)
+    c.in_ok-entry.ensures.same in
     let p = err_from_is_err_and c.from_residual-in_err-take_entry.result
     c.from_residual-in_err-take_entry.ensures.1 in
     rw (p.1, p.2) (taking_fails first before given
     (see c.take_entry.new.self c.take_entry.new.output c.take_entry.new.draws
     c.take_entry.new.tiles) c.args.count c.loop-taken._taken
     c.in_ok-entry.entry c.in_err-take_entry.field-0.0 c.loop-taken-test.true
-    c.loop-taken.invariant c.in_ok-entry.ensures.ok read c.in_err-take_entry.ensures.err)
+    c.loop-taken.invariant c.in_ok-entry.ensures.ok read c.in_err-take_entry.ensures.changes)

@@ -1,53 +1,43 @@
-use Rattle.std.proofs.lemmas.Result.{err_from_is_err_and}
 use Rattle.dp_script.specs.Moments.{moment}
 use Rattle.dp_joining.specs.Steps.{seen}
-use Rattle.dp_joining.proofs.Doing.{done_further, halts_at, kept_by, ran_out_by, refused_by}
+use Rattle.dp_joining.proofs.Doing.{done_further, halts_at, ran_out_at}
 use Rattle.dp_joining.proofs.machine.JoinerLineMachineStepsSteps.do_line.Goals as goal
 
-pub returns-in_err-action-clause-refused : goal.returns-in_err-action-clause-refused
-returns-in_err-action-clause-refused g c =
-    let p = err_from_is_err_and c.from_residual.result c.from_residual.ensures.1 in
-    rw (p.1, p.2) (refused_by (seen g.R.Source.left g.R.Source.faults g.S.Sink.held g.S.Sink.faults
-    g.O.Sink.held
-    g.O.Sink.faults)
-    (moment c.args.self.now c.args.output.now c.args.draws.now c.args.tiles.now)
-    c.args.line.now c.in_err-action.field-0.0 c.in_err-action.ensures.refused)
+pub returns-in-Ok-None-clause-refused : goal.returns-in-Ok-None-clause-refused
+returns-in-Ok-None-clause-refused g c = λ start done has step.
+    let none = rw c.in-Ok-None.field-0-is at c.in-Ok-None.ensures.none in
+    none step.0 (rw c.as_slice.ensures step.1)
 
-pub returns-in_err-action-clause-kept : goal.returns-in_err-action-clause-kept
-returns-in_err-action-clause-kept g c =
-    let p = err_from_is_err_and c.from_residual.result c.from_residual.ensures.1 in
-    rw (p.1, p.2) (kept_by (seen g.R.Source.left g.R.Source.faults g.S.Sink.held g.S.Sink.faults
-    g.O.Sink.held
-    g.O.Sink.faults)
-    (moment c.args.self.now c.args.output.now c.args.draws.now c.args.tiles.now)
-    c.in_err-action.field-0.0)
-
-pub returns-in_err-action-clause-ended : goal.returns-in_err-action-clause-ended
-returns-in_err-action-clause-ended g c =
-    let p = err_from_is_err_and c.from_residual.result c.from_residual.ensures.1 in
-    rw (p.1, p.2) (ran_out_by (seen g.R.Source.left g.R.Source.faults g.S.Sink.held g.S.Sink.faults
-    g.O.Sink.held
-    g.O.Sink.faults)
-    (moment c.args.self.now c.args.output.now c.args.draws.now c.args.tiles.now)
-    c.args.line.now c.in_err-action.field-0.0 c.in_err-action.ensures.refused)
-
-pub returns-in-Ok-clause-step : goal.returns-in-Ok-clause-step
-returns-in-Ok-clause-step g c = λ start done has.
-    (c.in_ok-action.action, c.in_ok-action.ensures.asks)
-
-pub returns-in-Ok-clause-done : goal.returns-in-Ok-clause-done
-returns-in-Ok-clause-done g c = λ start done has.
-    done_further (seen g.R.Source.left g.R.Source.faults g.S.Sink.held g.S.Sink.faults g.O.Sink.held
-    g.O.Sink.faults) start
-    (moment c.args.self.now c.args.output.now c.args.draws.now c.args.tiles.now)
-    (moment c.act.new.self c.act.new.output c.act.new.draws c.act.new.tiles)
-    done c.args.line.now c.in_ok-action.action c.in_ok-action.ensures.asks c.in-Ok.ensures.ok has
+pub returns-in-Ok-None-clause-kept : goal.returns-in-Ok-None-clause-kept
+returns-in-Ok-None-clause-kept g c = λ start done has. has
 
 pub returns-in-Err-clause-ended : goal.returns-in-Err-clause-ended
 returns-in-Err-clause-ended g c = λ start done has.
-    halts_at (seen g.R.Source.left g.R.Source.faults g.S.Sink.held g.S.Sink.faults g.O.Sink.held
-    g.O.Sink.faults) start
+    ran_out_at (seen g.O.Sink.held g.O.Sink.faults) start
+    (moment c.args.self.now c.args.output.now c.args.draws.now c.args.tiles.now) done
+    c.args.line.now has
+
+pub returns-in-Ok-clause-ready : goal.returns-in-Ok-clause-ready
+returns-in-Ok-clause-ready g c = c.in-Ok.ensures.ready
+
+pub returns-in-Ok-clause-step : goal.returns-in-Ok-clause-step
+returns-in-Ok-clause-step g c = λ start done has.
+    let some = rw c.in-Ok-Some.field-0-is at c.in-Ok-Some.ensures.some in
+    (c.in-Ok-Some.action, rw (← c.as_slice.ensures) some)
+
+pub returns-in-Ok-clause-done : goal.returns-in-Ok-clause-done
+returns-in-Ok-clause-done g c = λ start done has.
+    let some = rw c.in-Ok-Some.field-0-is at c.in-Ok-Some.ensures.some in
+    done_further (seen g.O.Sink.held g.O.Sink.faults) start
     (moment c.args.self.now c.args.output.now c.args.draws.now c.args.tiles.now)
     (moment c.act.new.self c.act.new.output c.act.new.draws c.act.new.tiles)
-    done c.args.line.now c.in_ok-action.action c.in-Err.stop c.in_ok-action.ensures.asks
-    c.in-Err.ensures.err has
+    done c.args.line.now c.in-Ok-Some.action (rw (← c.as_slice.ensures) some) c.in-Ok.ensures has
+
+pub returns-in-Err-act-clause-ended : goal.returns-in-Err-act-clause-ended
+returns-in-Err-act-clause-ended g c = λ start done has.
+    let some = rw c.in-Ok-Some.field-0-is at c.in-Ok-Some.ensures.some in
+    halts_at (seen g.O.Sink.held g.O.Sink.faults) start
+    (moment c.args.self.now c.args.output.now c.args.draws.now c.args.tiles.now)
+    (moment c.act.new.self c.act.new.output c.act.new.draws c.act.new.tiles)
+    done c.args.line.now c.in-Ok-Some.action c.in-Err-act.stop
+    (rw (← c.as_slice.ensures) some) c.in-Err-act.ensures has
