@@ -11,7 +11,7 @@ use Rattle.dp_pixels.specs.Resizes.{pixels_resized}
 use Rattle.dp_pixels.specs.declared.resize.Resize.{Resize}
 use Rattle.dp_plain.proofs.Pixels.{PixelsStay, clear_canvas-All, pixels_after-All}
 use Rattle.dp_plain.proofs.Pixels.{pixels_shifted-All}
-use Rattle.dp_paint.specs.Lists.{LayerOf}
+use Rattle.dp_paint.specs.Layers.{LayerOf}
 
 -- the layer belongs to a canvas of these sides
 abbrev pub Fits : ℕ → ℕ → LayerOf → Type 0

@@ -26,7 +26,7 @@ pub struct DeferredPixels {
 }
 
 impl Model for DeferredPixels {
-    ghost use Rattle.dp_paint.specs.Lists.{LayerOf};
+    ghost use Rattle.dp_paint.specs.Layers.{LayerOf};
 
     ghost Value = { LayerOf };
 

@@ -12,13 +12,15 @@ use Rattle.dp_blend.proofs.Canvas.{canvas_of-same}
 use Rattle.dp_msg_draw.specs.declared.draw.Draw.{Draw}
 use Rattle.dp_pixels.specs.Commands.{pixels_after}
 use Rattle.dp_tile.specs.Tiles.{TileGrid, grid_pixel, grid_pixels}
-use Rattle.dp_paint.specs.declared.op.TileOp.{TileOp}
-use Rattle.dp_paint.specs.declared.lists.Finish.TheVariants.{Clear}
+use Rattle.dp_ops.specs.declared.op.TileOp.{TileOp}
+use Rattle.dp_ops.specs.declared.lists.Finish.TheVariants.{Clear}
 use Rattle.dp_paint.specs.Jobs.{band_at}
-use Rattle.dp_paint.specs.Lists.{AllCount, IsChangedOn, IsFinished, Lists, Waiting, layer_pixels}
-use Rattle.dp_paint.specs.Lists.{list_at, listed_at, no_list, waiting_pixel}
+use Rattle.dp_ops.specs.Lists.{AllCount, IsChangedOn, IsFinished, Lists, Waiting}
+use Rattle.dp_paint.specs.Layers.{layer_pixels}
+use Rattle.dp_ops.specs.Lists.{list_at, listed_at, no_list}
+use Rattle.dp_paint.specs.Layers.{waiting_pixel}
 use Rattle.dp_paint.specs.Jobs.{tiles_waiting}
-use Rattle.dp_paint.specs.Ops.{on_tile, ops_at}
+use Rattle.dp_ops.specs.Ops.{on_tile, ops_at}
 use Rattle.dp_paint.specs.Painting.{pixels_after_all}
 use Rattle.dp_paint.proofs.Counts.{waiting_same, waiting_suc, waiting_zero, waits_none}
 use Rattle.dp_paint.proofs.Counts.{waits_same}

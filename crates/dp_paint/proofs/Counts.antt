@@ -8,10 +8,11 @@ use Rattle.std.proofs.lemmas.Bool.{false≢true}
 use Rattle.std.proofs.Math.Nat.{mul-le-mul_right}
 use Rattle.dp_tile.specs.declared.area.CellArea.{CellArea}
 use Rattle.dp_tile.specs.Areas.{is_in_cells}
-use Rattle.dp_paint.specs.declared.op.TileOp.{TileOp}
-use Rattle.dp_paint.specs.Lists.{IsInside, Lists, listed_at, waits_on}
+use Rattle.dp_ops.specs.declared.op.TileOp.{TileOp}
+use Rattle.dp_ops.specs.Lists.{IsInside, Lists, listed_at}
+use Rattle.dp_paint.specs.Jobs.{waits_on}
 use Rattle.dp_paint.specs.Jobs.{tiles_waiting}
-use Rattle.dp_paint.proofs.Waits.{inside_by, inside_facts}
+use Rattle.dp_ops.proofs.Waits.{inside_by, inside_facts}
 
 -- one or none
 at_most_one : (t : Bool) → cond t 0 1 ≤ 1

@@ -5,6 +5,7 @@ use Rattle.std.proofs.lemmas.Bool.{cond_both}
 use Rattle.std.specs.Int.{int_min}
 use Rattle.std.proofs.lemmas.Int.{ints, int_max_is, int_min_is}
 use Rattle.std.proofs.lemmas.Option.{none-some, same_Some}
+use Rattle.std.proofs.Common.{◌≤◌}
 use Rattle.dp_msg_draw.specs.declared.draw.Draw.{Draw}
 use Rattle.dp_msg_draw.specs.declared.draw.Draw.TheVariants as op
 use Rattle.dp_pixels.specs.declared.rect.Rect.{Rect}
@@ -16,6 +17,9 @@ use Rattle.dp_pixels.specs.Dabs.{placed_dabs}
 use Rattle.dp_pixels.specs.Rectangles.{is_in, rect_at}
 use Rattle.dp_paint.specs.Painting.{IsNear, IsOnGreatest, foot_area}
 use Rattle.dp_paint.specs.Reading.{IsMove}
+use Rattle.dp_tile.specs.declared.area.CellArea.{CellArea}
+use Rattle.dp_tile.specs.Areas.{is_in_cells}
+use Rattle.dp_ops.proofs.Waits.{inside_by, inside_facts}
 
 -- its squares are those of the foot
 pub area_squares : (r : Rect) (f : Footprint) → foot_area f ≡ Some r
@@ -124,3 +128,16 @@ move_within (op.MoveRect own sx sy w h tx ty) move layer from to is =
       near = subst IsNear first (greatest_near source);
     }
 move_within _ move layer from to is = absurd move
+
+-- a cell of an area is in one that has it
+pub in_joined : (a j : CellArea) (col row : ℕ) → j.left ≤ a.left → a.right ≤ j.right
+    → j.top ≤ a.top → a.bottom ≤ j.bottom → is_in_cells a col row ≡ true
+    → is_in_cells j col row ≡ true
+in_joined a j col row left right top bottom t =
+    let is = inside_facts a col row t in
+    inside_by j col row (record {
+      left = omega (arith, left, is.left);
+      right = omega (arith, right, is.right);
+      top = omega (arith, top, is.top);
+      bottom = omega (arith, bottom, is.bottom);
+    })

@@ -2,42 +2,47 @@
 use Rattle.std.proofs.Common.{◌≡◌, ℕ, ◌+◌, ◌*◌, ◌/◌, ◌%◌, ◌<◌, ◌≤◌, List, [], length}
 use Rattle.std.proofs.Common.{take, ap, sym, ◌∙◌, refl, true, false, arith, slice_index_or, subst}
 use Rattle.std.proofs.Common.{Ok, Err, ⊎_elim, cond, leb}
-use Rattle.std.specs.Prelude.{ℤ, pos, negsuc, Bool, ◌==◌, Option, Some, None, IfNone, IfSome}
+use Rattle.std.specs.Prelude.{ℤ, pos, negsuc, Bool, Option, Some, None, IfNone, IfSome}
 use Rattle.std.specs.Prelude.{Result, OnOk, OnErr, IsTrue}
 use Rattle.std.specs.Option.{ForSome}
-use Rattle.std.proofs.lemmas.Bool.{cases_Bool, cond-true, cond-false, eqb-true, false≢true, lt-ltb}
+use Rattle.std.proofs.lemmas.Bool.{cases_Bool, false≢true, lt-ltb}
 use Rattle.std.proofs.lemmas.Int.{ints}
-use Rattle.std.proofs.lemmas.List.{get_or-replicate, nil_from_length, take_all}
+use Rattle.std.proofs.lemmas.List.{get_or-replicate, take_all}
 use Rattle.std.proofs.Math.Nat.{mul-le-mul_left}
 use Rattle.dp_blend.specs.Color.{Channels, clear}
 use Rattle.dp_blend.specs.Canvas.{canvas_of, pixel_at}
 use Rattle.dp_blend.proofs.Canvas.{canvas_of-same, length-canvas_of, pixel_at-canvas_of}
 use Rattle.dp_msg_draw.specs.declared.draw.Draw.{Draw}
 use Rattle.dp_msg_draw.specs.declared.draw.Draw.TheVariants as draws
-use Rattle.dp_pixels.specs.Commands.{IsDabs, drawn, pixel_after, pixel_drawn, pixel_of}
+use Rattle.dp_pixels.specs.Commands.{IsDabs, drawn, pixel_of}
 use Rattle.dp_pixels.specs.Commands.{pixels_after}
 use Rattle.dp_pixels.specs.Feet.{foot, is_in_foot}
 use Rattle.dp_pixels.specs.Rectangles.{canvas_rect, is_in}
 use Rattle.dp_pixels.specs.Tiles.{ShowsTile, tile_pixel, tiles_along}
 use Rattle.dp_pixels.specs.declared.resize.Resize.{Resize}
 use Rattle.dp_pixels.specs.Resizes.{pixels_resized}
-use Rattle.dp_pixels.proofs.Rectangles.{is_in-true, is_in_by}
+use Rattle.dp_pixels.proofs.Rectangles.{is_in-true}
 use Rattle.dp_tile.specs.declared.area.CellArea.{CellArea}
 use Rattle.dp_tile.specs.Areas.{IsPaintedOn, is_in_cells}
 use Rattle.dp_tile.specs.Tiles.{TileGrid, cell_at, clear_grid, grid_pixel, grid_pixels}
 use Rattle.dp_tile.specs.Tiles.{tile_of, tile_pixels}
 use Rattle.dp_tile.proofs.Tiles.{pixel-tile_of}
-use Rattle.dp_paint.specs.declared.op.TileOp.{TileOp}
-use Rattle.dp_paint.specs.declared.lists.Finish.TheVariants.{Clear}
+use Rattle.dp_ops.specs.declared.op.TileOp.{TileOp}
+use Rattle.dp_ops.specs.declared.lists.Finish.TheVariants.{Clear}
 use Rattle.dp_paint.specs.Painting.{IsGridOf, IsPainting}
 use Rattle.dp_paint.specs.Reading.{IsResized}
-use Rattle.dp_paint.specs.Ops.{MayWait, OnTile, on_tile, ops_at, tile_after}
-use Rattle.dp_paint.specs.Lists.{HaveSame, IsChangedOn, IsFiled, IsFinished, IsInside, LayerOf}
-use Rattle.dp_paint.specs.Lists.{Lists, Waiting, layer_pixels, listed_at, no_list}
-use Rattle.dp_paint.specs.Lists.{anywhere, waiting_pixel}
-use Rattle.dp_paint.proofs.Ops.{pixel-tile_after}
-use Rattle.dp_paint.proofs.Painting.{StaysOutside, by_cells}
-use Rattle.dp_paint.proofs.Waits.{inside_by, inside_facts}
+use Rattle.dp_ops.specs.Ops.{MayWait, OnTile, on_tile, ops_at, tile_after}
+use Rattle.dp_ops.specs.Lists.{HaveSame, IsChangedOn, IsFiled, IsFinished, IsInside}
+use Rattle.dp_paint.specs.Layers.{LayerOf}
+use Rattle.dp_ops.specs.Lists.{Lists, Waiting, listed_at, no_list}
+use Rattle.dp_paint.specs.Layers.{layer_pixels}
+use Rattle.dp_ops.specs.Lists.{StandsOn, waiting_tile}
+use Rattle.dp_ops.proofs.Filed.{waits_stand}
+use Rattle.dp_paint.specs.Layers.{waiting_pixel}
+use Rattle.dp_ops.proofs.Ops.{pixel-tile_after}
+use Rattle.dp_paint.proofs.Painting.{StaysOutside, by_cells, pixel_in, pixel_off}
+use Rattle.dp_ops.proofs.Waits.{inside_by, inside_facts}
+use Rattle.dp_ops.proofs.Drawn.{on_canvas}
 
 -- ---- pixels
 
@@ -216,11 +221,6 @@ painted_grid width height area painted old new is_of is = record {
   rows = is.rows ∙ is_of.rows;
 }
 
--- what is known to be none
-pub known_none : {X : Type 0} (xs : List X) (empty : Bool) → empty ≡ (length xs == 0)
-    → empty ≡ true → xs ≡ []
-known_none xs empty is told = nil_from_length xs (eqb-true (length xs) 0 (sym is ∙ told))
-
 -- the layer of other lists and another grid with the same pixels
 pub same_layer : (layer : LayerOf) (width height : ℕ) (commands : List Draw) (old new : Lists)
     (g h : TileGrid)
@@ -277,31 +277,11 @@ blank_layer width height commands lists g none is =
     (omega (arith, in_y))))
     ∙ pixel-tile_of clear (y % 64 * 64 + x % 64) (omega arith)))
 
--- a fill or dabs, on the canvas
-pub waits_drawn : (width height : ℕ) (op : Draw) (x y : ℤ) (p : Channels) → MayWait op
-    → is_in (canvas_rect width height) x y ≡ true
-    → pixel_after op x y p ≡ pixel_drawn width height op x y p
-waits_drawn width height (draws.FillRect layer mode a b w h color) x y p may t = rw t refl
-waits_drawn width height (draws.DabsRound layer a b r g c mode dabs) x y p may t = rw t refl
-waits_drawn width height (draws.DabsSquare layer a b r g c mode dabs) x y p may t = rw t refl
-waits_drawn width height _ x y p may t = absurd may
-
 pub waits_paint : (op : Draw) → MayWait op → IsPainting op
 waits_paint (draws.FillRect layer mode a b w h color) may = tt
 waits_paint (draws.DabsRound layer a b r g c mode dabs) may = tt
 waits_paint (draws.DabsSquare layer a b r g c mode dabs) may = tt
 waits_paint _ may = absurd may
-
--- a place of the canvas
-pub on_canvas_at : (width height x y : ℕ) → x < width → y < height
-    → is_in (canvas_rect width height) (pos x) (pos y) ≡ true
-on_canvas_at width height x y in_x in_y =
-    is_in_by (canvas_rect width height) (pos x) (pos y) (record {
-      x0 = omega (arith, ints);
-      x1 = omega (arith, ints, in_x);
-      y0 = omega (arith, ints);
-      y1 = omega (arith, ints, in_y);
-    })
 
 -- the layer on whose tiles a command more waits
 pub filed_layer : (width height : ℕ) (commands : List Draw) (among : OnTile → Type 0) (op : Draw)
@@ -340,27 +320,17 @@ module _ (width height : ℕ) (commands : List Draw) (area : CellArea) (lists : 
   pub painted_in : is_in_cells area (x / 64) (y / 64) ≡ true
       → grid_pixel new x y ≡ waiting_pixel width height commands lists old x y
   painted_in t =
-      let col = x / 64 in
-      let row = y / 64 in
-      ap (λ pixels. pixel_at 64 pixels (x % 64) (y % 64))
-      (painted.cells col row (omega (arith, is_of.cols, in_x)) (omega (arith, is_of.rows, in_y))
-      ∙ cond-true (is_in_cells area col row)
-      (tile_after (on_tile width height commands col row) (listed_at lists col row)
-      (cell_at old col row)) (cell_at old col row) t)
-      ∙ pixel-tile_after (on_tile width height commands col row) (listed_at lists col row)
-      (cell_at old col row) (x % 64) (y % 64)
+      pixel_in area (waiting_tile width height commands lists) old new painted x y
+      (omega (arith, is_of.cols, in_x)) (omega (arith, is_of.rows, in_y)) t
+      ∙ pixel-tile_after (on_tile width height commands (x / 64) (y / 64))
+      (listed_at lists (x / 64) (y / 64)) (cell_at old (x / 64) (y / 64)) (x % 64) (y % 64)
       (omega arith) (omega arith)
 
   pub painted_out : is_in_cells area (x / 64) (y / 64) ≡ false
       → grid_pixel new x y ≡ grid_pixel old x y
-  painted_out t =
-      let col = x / 64 in
-      let row = y / 64 in
-      ap (λ pixels. pixel_at 64 pixels (x % 64) (y % 64))
-      (painted.cells col row (omega (arith, is_of.cols, in_x)) (omega (arith, is_of.rows, in_y))
-      ∙ cond-false (is_in_cells area col row)
-      (tile_after (on_tile width height commands col row) (listed_at lists col row)
-      (cell_at old col row)) (cell_at old col row) t)
+  painted_out =
+      pixel_off area (waiting_tile width height commands lists) old new painted x y
+      (omega (arith, is_of.cols, in_x)) (omega (arith, is_of.rows, in_y))
 
 -- a layer of which an area was painted, and on which nothing waits there any more
 pub settled : (width height : ℕ) (commands : List Draw) (area : CellArea) (before after : Lists)
@@ -417,16 +387,16 @@ dabs_wait (draws.DabsSquare layer a b r g c mode dabs) is = tt
 dabs_wait _ is = absurd is
 
 -- a grid that was painted by a command that was filed on its own
-pub filed_alone : (width height : ℕ) (commands : List Draw) (op : Draw) → StaysOutside → MayWait op
-    → (area : CellArea)
+pub filed_alone : (width height number : ℕ) (commands : List Draw) (op : Draw) → StaysOutside
+    → MayWait op → (area : CellArea)
     (none filed : Lists) (old new : TileGrid) → IsGridOf width height old → none.lists ≡ []
     → ((x y : ℕ) → x < old.cols * 64 → y < old.rows * 64
     → is_in_foot (foot op) (pos x) (pos y) ≡ true → is_in_cells area (x / 64) (y / 64) ≡ true)
-    → IsFiled anywhere op area none filed
+    → IsFiled (StandsOn width height number op) op area none filed
     → IsPaintedOn area (λ col row. tile_after (on_tile width height commands col row)
     (listed_at filed col row)) old new
     → grid_pixels width height new ≡ pixels_after width height op (grid_pixels width height old)
-filed_alone width height commands op law may area none filed old new is_of is_none covers is
+filed_alone width height number commands op law may area none filed old new is_of is_none covers is
     painted =
     canvas_of-same width height (grid_pixel new) (waiting_pixel width height commands filed old)
     (λ x y in_x in_y.
@@ -441,7 +411,9 @@ filed_alone width height commands op law may area none filed old new is_of is_no
     (λ i. false≢true (sym t ∙ inside_by area col row i))
     ∙ nothing none is_none col row)))
     (cases_Bool (is_in_cells area col row)))
-    ∙ filed_layer width height commands anywhere op law (waits_paint op may) (λ col row. tt) area
+    ∙ filed_layer width height commands (StandsOn width height number op) op law
+    (waits_paint op may)
+    (λ col row. waits_stand width height number op (on_tile width height commands col row) may) area
     none filed old is_of.wide is_of.high
     (λ x y in_x in_y. covers x y (omega (arith, is_of.cols, in_x))
     (omega (arith, is_of.rows, in_y)))
@@ -517,7 +489,7 @@ module _ (width height : ℕ) (commands : List Draw) (op : Draw) (stays : StaysO
       ⊎_elim (λ f.
       in_foot new x y in_x in_y f ∙ new_pixel x y in_x in_y
       ∙ tells width height op grid_at layer_at (pos x) (pos y) wide high
-      (same_in_foot (pos x) (pos y) (on_canvas_at width height x y in_x in_y) f)
+      (same_in_foot (pos x) (pos y) (on_canvas width height x y in_x in_y) f)
       (λ v w on in_f. same_in_foot v w on in_f))
       (λ f.
       ap (ops_at (on_tile width height commands (x / 64) (y / 64))

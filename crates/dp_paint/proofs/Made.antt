@@ -15,7 +15,7 @@ use Rattle.dp_tile.proofs.CellByCell.{cell_beside, cell_elsewhere, cell_same}
 use Rattle.dp_tile.proofs.CellByCell.{place_inside}
 use Rattle.dp_paint.specs.Jobs.{AreMade, AreOnGrid, IsDone, IsJobFor, HasRun, TileWork, band_at, is_numbered}
 use Rattle.dp_paint.specs.Jobs.{work_at}
-use Rattle.dp_paint.proofs.Waits.{inside_by, inside_facts}
+use Rattle.dp_ops.proofs.Waits.{inside_by, inside_facts}
 
 -- ---- one cell
 

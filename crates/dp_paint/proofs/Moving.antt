@@ -11,7 +11,6 @@ use Rattle.std.proofs.lemmas.Int.{ints, int_max_is, int_min_is}
 use Rattle.dp_blend.specs.Color.{Channels, clear}
 use Rattle.dp_blend.specs.Blending.{blend}
 use Rattle.dp_blend.specs.declared.modes.Mode.TheVariants.{Normal}
-use Rattle.dp_blend.specs.Canvas.{pixel_at}
 use Rattle.dp_blend.proofs.Canvas.{canvas_of-same}
 use Rattle.dp_msg_draw.specs.declared.draw.Draw.{Draw}
 use Rattle.dp_msg_draw.specs.declared.draw.Draw.TheVariants.{MoveRect}
@@ -27,8 +26,10 @@ use Rattle.dp_tile.proofs.Tiles.{length-tile_of, pixel-tile_of}
 use Rattle.dp_tile.specs.Areas.{IsPaintedOn, is_in_cells}
 use Rattle.dp_paint.specs.Painting.{IsGridOf, IsOnGreatest}
 use Rattle.dp_paint.specs.Reading.{ArePainted, IsAreaOf, moved_part, shifted, shown, tile_from}
+use Rattle.dp_paint.proofs.Painting.{pixel_in, pixel_off}
 use Rattle.dp_paint.proofs.Shown.{shown_at}
 use Rattle.dp_paint.proofs.Tiles.{is_tile_from, pixel-tile_from}
+use Rattle.dp_ops.proofs.Drawn.{on_canvas}
 
 module _ (pixel : ℤ → ℤ → Channels) (area : CellArea) (old new : TileGrid)
     (painted : IsPaintedOn area (λ col row _. tile_from pixel col row) old new) where
@@ -36,25 +37,17 @@ module _ (pixel : ℤ → ℤ → Channels) (area : CellArea) (old new : TileGri
   pub pixel_in_area : (x y : ℕ) → x / 64 < old.cols → y / 64 < old.rows
       → is_in_cells area (x / 64) (y / 64) ≡ true → grid_pixel new x y ≡ pixel (pos x) (pos y)
   pixel_in_area x y in_cols in_rows inside =
-      let col = x / 64 in
-      let row = y / 64 in
-      let cell = painted.cells col row in_cols in_rows ∙ cond-true (is_in_cells area col row)
-      (tile_from pixel col row) (cell_at old col row) inside in
-      let at_x : col * 64 + x % 64 ≡ x = omega arith in
-      let at_y : row * 64 + y % 64 ≡ y = omega arith in
-      ap (λ pixels. pixel_at 64 pixels (x % 64) (y % 64)) cell
-      ∙ pixel-tile_from pixel col row (x % 64) (y % 64) (omega arith) (omega arith)
+      let at_x : x / 64 * 64 + x % 64 ≡ x = omega arith in
+      let at_y : y / 64 * 64 + y % 64 ≡ y = omega arith in
+      pixel_in area (λ col row _. tile_from pixel col row) old new painted x y in_cols in_rows
+      inside
+      ∙ pixel-tile_from pixel (x / 64) (y / 64) (x % 64) (y % 64) (omega arith) (omega arith)
       ∙ (rw (at_x, at_y) refl)
 
   -- a place in another cell
   pub pixel_off_area : (x y : ℕ) → x / 64 < old.cols → y / 64 < old.rows
       → is_in_cells area (x / 64) (y / 64) ≡ false → grid_pixel new x y ≡ grid_pixel old x y
-  pixel_off_area x y in_cols in_rows outside =
-      let col = x / 64 in
-      let row = y / 64 in
-      ap (λ pixels. pixel_at 64 pixels (x % 64) (y % 64))
-      (painted.cells col row in_cols in_rows ∙ cond-false (is_in_cells area col row)
-      (tile_from pixel col row) (cell_at old col row) outside)
+  pixel_off_area = pixel_off area (λ col row _. tile_from pixel col row) old new painted
 
 -- the areas are painted with these pixels by equal numbers
 pub same_painted : (from to : CellArea) (a b : Rect) (right_a right_b down_a down_b : ℤ)
@@ -76,15 +69,6 @@ is_grid_moved w h from to pixel old new is_of are = record {
 }
 
 -- a place on a canvas
-pub on_canvas : (w h x y : ℕ) → x < w → y < h → is_in (canvas_rect w h) (pos x) (pos y) ≡ true
-on_canvas w h x y in_x in_y =
-    is_in_by (canvas_rect w h) (pos x) (pos y) (record {
-      x0 = omega (arith, ints);
-      x1 = omega (arith, ints, in_x);
-      y0 = omega (arith, ints);
-      y1 = omega (arith, ints, in_y);
-    })
-
 -- ---- the cells that a move reaches
 
 -- the places of a rectangle that are on a canvas are those of its part on the greatest one

@@ -12,16 +12,20 @@ use Rattle.dp_pixels.specs.Feet.{foot, is_in_foot}
 use Rattle.dp_tile.specs.declared.area.CellArea.{CellArea}
 use Rattle.dp_tile.specs.Areas.{is_in_cells}
 use Rattle.dp_tile.specs.Tiles.{TileGrid, grid_pixel}
-use Rattle.dp_paint.specs.declared.op.TileOp.{TileOp}
-use Rattle.dp_paint.specs.declared.lists.Finish.TheVariants.{Clear}
+use Rattle.dp_ops.specs.declared.op.TileOp.{TileOp}
+use Rattle.dp_ops.specs.declared.lists.Finish.TheVariants.{Clear}
 use Rattle.dp_paint.specs.Painting.{IsPainting}
-use Rattle.dp_paint.specs.Ops.{OnTile, on_tile, ops_at}
-use Rattle.dp_paint.specs.Lists.{HaveSame, HaveSome, IsChangedOn, IsFiled, IsFinished}
-use Rattle.dp_paint.specs.Lists.{IsNumbered, LayerOf, Lists, NamesThese, Waiting, layer_pixels}
-use Rattle.dp_paint.specs.Lists.{listed_at, waiting_pixel}
+use Rattle.dp_ops.specs.Ops.{OnTile, on_tile, ops_at}
+use Rattle.dp_ops.specs.Lists.{HaveSame, IsChangedOn, IsFiled, IsFinished}
+use Rattle.dp_paint.specs.Layers.{HaveSome}
+use Rattle.dp_ops.specs.Lists.{StandsOn, Lists, Waiting}
+use Rattle.dp_paint.specs.Layers.{LayerOf, NamesThese, layer_pixels}
+use Rattle.dp_ops.specs.Lists.{listed_at}
+use Rattle.dp_paint.specs.Layers.{waiting_pixel}
+use Rattle.dp_ops.proofs.Filed.{numbered_stands}
 use Rattle.dp_paint.proofs.Layers.{filed_layer, layer_after, layer_of, same_layer, same_pixels}
 use Rattle.dp_paint.proofs.Painting.{StaysOutside}
-use Rattle.dp_paint.proofs.Waits.{inside_by, inside_facts}
+use Rattle.dp_ops.proofs.Waits.{inside_by, inside_facts}
 
 -- ---- lists of which some are left
 
@@ -148,30 +152,35 @@ at_seam (c ∷ commands) op more = at_seam commands op more
 
 module _ (width height : ℕ) (commands : List Draw) (op : Draw) where
   pub last_numbered : (col row : ℕ)
-      → IsNumbered width height (length commands) op
+      → StandsOn width height (length commands) op
       (on_tile width height (commands ++ op ∷ []) col row)
   last_numbered col row =
-      record { width = refl; height = refl; numbered = at_seam commands op [] }
+      numbered_stands width height (length commands) op
+      (on_tile width height (commands ++ op ∷ []) col row)
+      (record { width = refl; height = refl; numbered = at_seam commands op [] })
 
   pub still_numbered : (more : List Draw) (col row : ℕ)
-      → IsNumbered width height (length commands) op
+      → StandsOn width height (length commands) op
       (on_tile width height ((commands ++ op ∷ []) ++ more) col row)
-  still_numbered more col row = record {
-    width = refl;
-    height = refl;
-    numbered = ap (λ (all : List Draw). slice_get all (length commands))
-        (append_assoc commands (op ∷ []) more) ∙ at_seam commands op more;
-  }
+  still_numbered more col row =
+      numbered_stands width height (length commands) op
+      (on_tile width height ((commands ++ op ∷ []) ++ more) col row)
+      (record {
+        width = refl;
+        height = refl;
+        numbered = ap (λ (all : List Draw). slice_get all (length commands))
+            (append_assoc commands (op ∷ []) more) ∙ at_seam commands op more;
+      })
 
 -- a command that was filed by its number, as the last one
 module _ (width height : ℕ) (commands : List Draw) (op : Draw) (area : CellArea)
     (old new : Lists) (wide : width ≤ 4096)
     (names : NamesThese width height commands old)
-    (filed : IsFiled (IsNumbered width height (length commands) op) op area old new) where
+    (filed : IsFiled (StandsOn width height (length commands) op) op area old new) where
   pub last_names : NamesThese width height (commands ++ op ∷ []) new
   last_names =
       filed_names width height (commands ++ op ∷ [])
-      (IsNumbered width height (length commands) op) op area old new wide
+      (StandsOn width height (length commands) op) op area old new wide
       (last_numbered width height commands op) (still_numbered width height commands op) filed
       (more_names width height commands op old names)
 
@@ -190,7 +199,7 @@ module _ (width height : ℕ) (commands : List Draw) (op : Draw) (area : CellAre
       layer_after layer width height (commands ++ op ∷ []) op old new g g
       (more_layer layer width height commands op old g names view)
       (filed_layer width height (commands ++ op ∷ [])
-      (IsNumbered width height (length commands) op) op law is
+      (StandsOn width height (length commands) op) op law is
       (last_numbered width height commands op) area old new g wide high covers filed)
 
 -- commands of which the last was filed by its number
@@ -198,10 +207,10 @@ module _ (layer : LayerOf) (width height : ℕ) (commands all : List Draw) (op :
     (number : ℕ) (area : CellArea) (old new : Lists) (wide : width ≤ 4096) (high : height ≤ 4096)
     (is_all : all ≡ commands ++ op ∷ []) (is_number : number ≡ length commands)
     (names : NamesThese width height commands old)
-    (filed : IsFiled (IsNumbered width height number op) op area old new) where
-  at_last : IsFiled (IsNumbered width height (length commands) op) op area old new
+    (filed : IsFiled (StandsOn width height number op) op area old new) where
+  at_last : IsFiled (StandsOn width height (length commands) op) op area old new
   at_last =
-      subst (λ (n : ℕ). IsFiled (IsNumbered width height n op) op area old new) is_number filed
+      subst (λ (n : ℕ). IsFiled (StandsOn width height n op) op area old new) is_number filed
 
   pub pushed_names : NamesThese width height all new
   pushed_names =

@@ -1,34 +1,22 @@
 -- Commands painted on tiles, by their places.
-use Rattle.std.proofs.Common.{◌≡◌, ℕ, ◌+◌, ◌*◌, ◌/◌, ◌%◌, ◌<◌, ◌≤◌, List, length, arith}
+use Rattle.std.proofs.Common.{◌≡◌, ℕ, ◌+◌, ◌*◌, ◌/◌, ◌%◌, ◌<◌, ◌≤◌, arith}
 use Rattle.std.proofs.Common.{ap, sym, ◌∙◌, refl, true, false, ⊎_elim}
 use Rattle.std.specs.Prelude.{pos, ℤ}
 use Rattle.std.proofs.lemmas.Bool.{lt-ltb, cond-true, cond-false, cases_Bool, false≢true}
 use Rattle.std.proofs.lemmas.Bool.{false_from_ne_true}
-use Rattle.dp_blend.specs.Color.{Channels, clear}
+use Rattle.dp_blend.specs.Color.{Channels}
 use Rattle.dp_blend.specs.Canvas.{canvas_of, pixel_at}
 use Rattle.dp_blend.proofs.Canvas.{canvas_of-same, pixel_at-canvas_of}
 use Rattle.dp_msg_draw.specs.declared.draw.Draw.{Draw}
 use Rattle.dp_msg_draw.specs.declared.draw.Draw.TheVariants as draws
-use Rattle.dp_pixels.specs.declared.region.Region.{Region}
 use Rattle.dp_pixels.specs.Commands.{drawn, pixel_drawn, pixel_of, pixels_after}
 use Rattle.dp_pixels.specs.Feet.{foot, is_in_foot, reach, squares_of_foot}
-use Rattle.dp_pixels.specs.Regions.{IsPainted}
 use Rattle.dp_tile.specs.declared.area.CellArea.{CellArea}
 use Rattle.dp_tile.specs.Tiles.{TileGrid, cell_at, grid_pixel, grid_pixels}
-use Rattle.dp_tile.specs.Areas.{IsPaintedOn, is_in_cells}
-use Rattle.dp_paint.specs.Painting.{IsGridOf, IsPainting, tile_drawn}
-use Rattle.dp_paint.proofs.Drawn.{is_tile_drawn, pixel-tile_drawn}
-
--- a window of one tile that was painted
-pub tile_painted : (width height : ℕ) (op : Draw) (col row : ℕ) (region : Region)
-    (old new : List Channels) → region.x ≡ col * 64 → region.y ≡ row * 64
-    → region.width ≡ 64 → region.height ≡ 64 → length old ≡ 4096
-    → IsPainted region 64 (pixel_drawn width height op) old new
-    → new ≡ tile_drawn width height op col row old
-tile_painted width height op col row region old new at_x at_y wide high count is =
-    is_tile_drawn width height op col row old new (is.len ∙ count)
-    (λ i j in_x in_y. rw (← at_x, ← at_y)
-    (is.inside i j clear (omega (arith, wide, in_x)) (omega (arith, high, in_y))))
+use Rattle.dp_tile.specs.Areas.{IsPaintedOn, Painted, is_in_cells}
+use Rattle.dp_paint.specs.Painting.{IsGridOf, IsPainting}
+use Rattle.dp_ops.specs.Drawn.{tile_drawn}
+use Rattle.dp_ops.proofs.Drawn.{pixel-tile_drawn}
 
 -- a command that is no move changes each pixel from the old one
 pub by_pixels : (width height : ℕ) (op : Draw) → IsPainting op → (old : ℤ → ℤ → Channels) (x y : ℤ)
@@ -87,6 +75,28 @@ module _ (width height : ℕ) (op : Draw) (is : IsPainting op) (law : StaysOutsi
       (λ f. false≢true (sym t ∙ covers x y in_x in_y f))))
       (cases_Bool (is_in_cells area (x / 64) (y / 64))))
 
+-- the pixel at a place of a grid of which an area was painted
+module _ (area : CellArea) (painted : Painted) (old new : TileGrid)
+    (is : IsPaintedOn area painted old new) (x y : ℕ) (in_cols : x / 64 < old.cols)
+    (in_rows : y / 64 < old.rows) where
+  pub pixel_in : is_in_cells area (x / 64) (y / 64) ≡ true → grid_pixel new x y
+      ≡ pixel_at 64 (painted (x / 64) (y / 64) (cell_at old (x / 64) (y / 64))) (x % 64) (y % 64)
+  pixel_in inside =
+      ap (λ pixels. pixel_at 64 pixels (x % 64) (y % 64))
+      (is.cells (x / 64) (y / 64) in_cols in_rows
+      ∙ cond-true (is_in_cells area (x / 64) (y / 64))
+      (painted (x / 64) (y / 64) (cell_at old (x / 64) (y / 64))) (cell_at old (x / 64) (y / 64))
+      inside)
+
+  pub pixel_off : is_in_cells area (x / 64) (y / 64) ≡ false
+      → grid_pixel new x y ≡ grid_pixel old x y
+  pixel_off outside =
+      ap (λ pixels. pixel_at 64 pixels (x % 64) (y % 64))
+      (is.cells (x / 64) (y / 64) in_cols in_rows
+      ∙ cond-false (is_in_cells area (x / 64) (y / 64))
+      (painted (x / 64) (y / 64) (cell_at old (x / 64) (y / 64))) (cell_at old (x / 64) (y / 64))
+      outside)
+
 -- a grid of which an area was painted
 pub grid_painted : (width height : ℕ) (op : Draw) → IsPainting op → StaysOutside
     → (area : CellArea) (old new : TileGrid) → IsGridOf width height old
@@ -99,24 +109,16 @@ grid_painted width height op is law area old new is_of covers painted =
     (λ x y in_x in_y. covers x y (omega (arith, is_of.cols, in_x))
     (omega (arith, is_of.rows, in_y)))
     (λ x y in_x in_y t.
-    let col = x / 64 in
-    let row = y / 64 in
-    let at_x : col * 64 + x % 64 ≡ x = omega arith in
-    let at_y : row * 64 + y % 64 ≡ y = omega arith in
-    ap (λ pixels. pixel_at 64 pixels (x % 64) (y % 64))
-    (painted.cells col row (omega (arith, is_of.cols, in_x)) (omega (arith, is_of.rows, in_y))
-    ∙ cond-true (is_in_cells area col row)
-    (tile_drawn width height op col row (cell_at old col row)) (cell_at old col row) t)
-    ∙ pixel-tile_drawn width height op col row (cell_at old col row) (x % 64) (y % 64)
-    (omega arith) (omega arith)
+    let at_x : x / 64 * 64 + x % 64 ≡ x = omega arith in
+    let at_y : y / 64 * 64 + y % 64 ≡ y = omega arith in
+    pixel_in area (tile_drawn width height op) old new painted x y (omega (arith, is_of.cols, in_x))
+    (omega (arith, is_of.rows, in_y)) t
+    ∙ pixel-tile_drawn width height op (x / 64) (y / 64) (cell_at old (x / 64) (y / 64)) (x % 64)
+    (y % 64) (omega arith) (omega arith)
     ∙ (rw (at_x, at_y) refl))
     (λ x y in_x in_y t.
-    let col = x / 64 in
-    let row = y / 64 in
-    ap (λ pixels. pixel_at 64 pixels (x % 64) (y % 64))
-    (painted.cells col row (omega (arith, is_of.cols, in_x)) (omega (arith, is_of.rows, in_y))
-    ∙ cond-false (is_in_cells area col row)
-    (tile_drawn width height op col row (cell_at old col row)) (cell_at old col row) t))
+    pixel_off area (tile_drawn width height op) old new painted x y
+    (omega (arith, is_of.cols, in_x)) (omega (arith, is_of.rows, in_y)) t)
 
 -- it reaches the squares of its foot
 pub reach_painting : (op : Draw) → IsPainting op → reach op ≡ squares_of_foot (foot op)

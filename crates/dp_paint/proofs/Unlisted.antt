@@ -5,12 +5,12 @@ use Rattle.dp_msg_draw.specs.declared.draw.Draw.{Draw}
 use Rattle.dp_tile.specs.declared.area.CellArea.{CellArea}
 use Rattle.dp_tile.specs.Areas.{IsPaintedOn, is_in_cells}
 use Rattle.dp_tile.specs.Tiles.{IsGrid, TileGrid, cell_at}
-use Rattle.dp_paint.specs.declared.lists.Finish.TheVariants.{Clear}
-use Rattle.dp_paint.specs.Ops.{on_tile}
-use Rattle.dp_paint.specs.Lists.{IsChangedOn, IsFinished, Lists, Waiting, list_at, listed_at}
-use Rattle.dp_paint.specs.Lists.{no_list, waiting_tile}
+use Rattle.dp_ops.specs.declared.lists.Finish.TheVariants.{Clear}
+use Rattle.dp_ops.specs.Ops.{on_tile}
+use Rattle.dp_ops.specs.Lists.{IsChangedOn, IsFinished, Lists, Waiting, list_at, listed_at}
+use Rattle.dp_ops.specs.Lists.{no_list, waiting_tile}
 use Rattle.dp_paint.proofs.Made.{cell_long}
-use Rattle.dp_paint.proofs.Ops.{tile_none}
+use Rattle.dp_ops.proofs.Ops.{tile_none}
 
 -- no list is made at any tile
 no_list_at : (lists : Lists) → lists.lists ≡ [] → (col row : ℕ) → list_at lists col row ≡ no_list

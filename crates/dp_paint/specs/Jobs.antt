@@ -1,11 +1,11 @@
 -- Tiles that are painted by jobs.
-use Rattle.std.specs.Prelude.{◌≡◌, ◌==◌, ℕ, zero, suc, ◌+◌, ◌-◌, ◌*◌, ◌<◌, ◌≤◌, Bool, ◌&&◌, nat_le, nat_lt}
-use Rattle.std.specs.Prelude.{if◌then◌else◌, List, [], ◌∷◌, length, All}
+use Rattle.std.specs.Prelude.{◌≡◌, ◌==◌, ℕ, zero, suc, ◌+◌, ◌-◌, ◌*◌, ◌/◌, ◌%◌, ◌<◌, ◌≤◌, Bool, ◌&&◌}
+use Rattle.std.specs.Prelude.{nat_le, nat_lt, if◌then◌else◌, List, [], ◌∷◌, length, All}
 use Rattle.dp_blend.specs.Color.{Channels, clear}
 use Rattle.dp_tile.specs.declared.area.CellArea.{CellArea}
 use Rattle.dp_tile.specs.Areas.{Painted}
 use Rattle.dp_tile.specs.Tiles.{TileGrid, cell_at, tile_of}
-use Rattle.dp_paint.specs.Lists.{Lists, waits_on}
+use Rattle.dp_ops.specs.Lists.{Lists, listed_at}
 
 -- a job: where its tile stands, the pixels that it is to have, and those of the new tile
 pub record TileWork : Type 0 where
@@ -26,6 +26,10 @@ unfoldable pub work_at : List TileWork → ℕ → ℕ → List Channels → Lis
 work_at [] col row pixels = pixels
 work_at (job ∷ jobs) col row pixels =
     if job.col == col && job.row == row then job.wanted else work_at jobs col row pixels
+
+-- 1 if operations wait on the tile of a number, if those of each row have 64 numbers, and else 0
+abbrev pub waits_on : Lists → ℕ → ℕ
+waits_on l number = if length (listed_at l (number % 64) (number / 64)) == 0 then 0 else 1
 
 -- on how many of the tiles before the one of a number operations wait
 unfoldable pub tiles_waiting : Lists → ℕ → ℕ

@@ -1,7 +1,5 @@
 pub mod Painting
-pub mod Puts
-pub mod Ops
-pub mod Lists
+pub mod Layers
 pub mod Jobs
 pub mod Reading
 pub mod Movements

@@ -1,17 +1,14 @@
 -- Commands on grids of tiles.
-use Rattle.std.specs.Prelude.{◌≡◌, ℕ, ◌+◌, ◌*◌, ◌<◌, ◌≤◌, pos, ◌≤ℤ◌, true, List, length}
+use Rattle.std.specs.Prelude.{◌≡◌, ℕ, ◌<◌, ◌≤◌, pos, ◌≤ℤ◌, List}
 use Rattle.std.specs.Prelude.{Option, Some, None, unsigned_abs, ◌^◌, fold, ⊤}
 use Rattle.dp_blend.specs.Color.{Channels}
-use Rattle.dp_blend.specs.Canvas.{canvas_of, pixel_at}
-use Rattle.dp_blend.proofs.Canvas.{length-canvas_of}
 use Rattle.dp_msg_draw.specs.declared.draw.Draw.{Draw}
 use Rattle.dp_msg_draw.specs.declared.draw.Draw.TheVariants.{FillRect, PutImage, PutTile, DabsRound}
 use Rattle.dp_msg_draw.specs.declared.draw.Draw.TheVariants.{DabsSquare}
 use Rattle.dp_pixels.specs.declared.rect.Rect.{Rect}
-use Rattle.dp_pixels.specs.Commands.{pixel_drawn, pixels_after}
+use Rattle.dp_pixels.specs.Commands.{pixels_after}
 use Rattle.dp_pixels.specs.declared.feet.Footprint.{Footprint}
 use Rattle.dp_pixels.specs.declared.feet.Footprint.TheVariants.{Area}
-use Rattle.dp_pixels.specs.Rectangles.{canvas_rect, is_in}
 use Rattle.dp_pixels.specs.Tiles.{tiles_along}
 use Rattle.dp_tile.specs.Tiles.{TileGrid}
 
@@ -30,13 +27,6 @@ pub record IsGridOf (width height : ℕ) (g : TileGrid) : Type 0 where
   pub high : height ≤ 4096
   pub cols : g.cols ≡ tiles_along width
   pub rows : g.rows ≡ tiles_along height
-
--- the pixels of the tile at a column and a row after a command other than MoveRect
-unfoldable pub tile_drawn : ℕ → ℕ → Draw → ℕ → ℕ → List Channels → List Channels
-tile_drawn width height op col row pixels =
-    canvas_of 64 64
-    (λ i j.
-    pixel_drawn width height op (pos (col * 64 + i)) (pos (row * 64 + j)) (pixel_at 64 pixels i j))
 
 -- the pixels of a layer after commands, one after the other
 abbrev pub pixels_after_all : ℕ → ℕ → List Draw → List Channels → List Channels
@@ -61,18 +51,3 @@ pub record IsNear (r : Rect) : Type 0 where
   pub top : unsigned_abs r.y0 < 2 ^ 38
   pub right : unsigned_abs r.x1 < 2 ^ 38
   pub bottom : unsigned_abs r.y1 < 2 ^ 38
-
--- each place of the tile at a column and a row is in the rectangle and on the canvas
-abbrev pub IsTileWithin : ℕ → ℕ → Rect → ℕ → ℕ → Type 0
-IsTileWithin width height area col row =
-    (i j : ℕ) → i < 64 → j < 64
-    → (is_in area (pos (col * 64 + i)) (pos (row * 64 + j)) ≡ true)
-    × (is_in (canvas_rect width height) (pos (col * 64 + i)) (pos (row * 64 + j)) ≡ true)
-
--- a tile has 4096 pixels after a command
-pub length-tile_drawn : (width height : ℕ) (op : Draw) (col row : ℕ) (pixels : List Channels)
-    → length (tile_drawn width height op col row pixels) ≡ 4096
-unfolding tile_drawn
-length-tile_drawn width height op col row pixels =
-    length-canvas_of 64 64 (λ i j. pixel_drawn width height op (pos (col * 64 + i))
-    (pos (row * 64 + j)) (pixel_at 64 pixels i j))

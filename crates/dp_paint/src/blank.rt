@@ -4,15 +4,9 @@ ghost use Rattle.std.specs.Prelude.{◌≡◌, ◌≤◌, IfOk};
 ghost use Rattle.dp_pixels.specs.Tiles.{tiles_along};
 ghost use Rattle.dp_tile.specs.Tiles.{clear_grid};
 
+use dp_ops::tiles_along;
 use dp_tile::Grid;
 use std::alloc::{AllocError, Global};
-
-/// How many tiles there are along a side.
-pub(crate) fn tiles_along(side: u32) -> u32
-    ensures { result ≡ tiles_along side }
-{
-    ((side as u64 + 63) / 64) as u32
-}
 
 /// The grid of a canvas of these sides that shows nothing. It makes no tile.
 pub fn blank_grid(alloc: Global, width: u32, height: u32) -> Result<Grid, AllocError>

@@ -7,14 +7,11 @@ ghost use Rattle.dp_tile.specs.Areas.{IsPaintedOn, is_in_cells};
 ghost use Rattle.dp_tile.specs.Tiles.{grid_pixels};
 ghost use Rattle.dp_paint.specs.Painting.{IsGridOf, IsPainting};
 ghost use Rattle.dp_paint.specs.Reading.{IsAreaOf, cells_of};
-ghost use Rattle.dp_paint.specs.Lists.{IsChangedOn, IsFinished, waiting_tile};
+ghost use Rattle.dp_ops.specs.Lists.{IsChangedOn, IsFinished, waiting_tile};
 
 use crate::feet::cells_of;
-use crate::filing::file;
-use crate::lists::{Finish, TileLists};
-use crate::painter::{CommandPainter, OpsPainter};
-use crate::sheet::Sheet;
 use dp_msg_draw::Draw;
+use dp_ops::{CommandPainter, Finish, Numbered, OpsPainter, Sheet, TileLists, file};
 use dp_pixels::pixels_stay_outside_the_foot;
 use dp_steps::Steps;
 use dp_tile::{CellArea, Grid};
@@ -114,7 +111,13 @@ fn paint_stroke<T: Ledger>(
     pixels_stay_outside_the_foot();
     grid.known();
     let mut lists = TileLists::new(grid.alloc(), area.top);
-    file(&mut lists, grid.alloc(), command, area)?;
+    let source = Numbered {
+        width,
+        height,
+        number: 0,
+        command,
+    };
+    file(&mut lists, grid.alloc(), &source, area)?;
     let on = Sheet {
         width,
         height,

@@ -4,12 +4,12 @@ ghost use Rattle.std.specs.Prelude.{◌≡◌, ℕ, ◌+◌, ◌*◌, ◌/◌, �
 ghost use Rattle.std.specs.Prelude.{true, false};
 ghost use Rattle.dp_blend.specs.Color.{clear};
 ghost use Rattle.dp_tile.specs.Tiles.{cell_at, tile_of, with_cell};
-ghost use Rattle.dp_paint.specs.Lists.{listed_at, waiting_tile, waits_on};
+ghost use Rattle.dp_ops.specs.Lists.{listed_at, waiting_tile};
+ghost use Rattle.dp_paint.specs.Jobs.{waits_on};
 ghost use Rattle.dp_paint.specs.Jobs.{tiles_waiting};
 ghost use Rattle.dp_paint.specs.Jobs.{AreMade, AreOnGrid, IsDone};
 
-use crate::lists::TileLists;
-use crate::painter::OpsPainter;
+use dp_ops::{OpsPainter, TileLists};
 use dp_par::Job;
 use dp_steps::Steps;
 use dp_tile::{Grid, Tile, TileChange, TilePainter};
@@ -36,7 +36,7 @@ impl<'a> Model for TileJob<'a> {
     ghost use Rattle.std.specs.Option.{option_map_or};
     ghost use Rattle.dp_blend.specs.Color.{clear};
     ghost use Rattle.dp_tile.specs.Tiles.{tile_of};
-    ghost use Rattle.dp_paint.specs.Lists.{waiting_tile};
+    ghost use Rattle.dp_ops.specs.Lists.{waiting_tile};
     ghost use Rattle.dp_paint.specs.Jobs.{TileWork};
 
     ghost Value = { TileWork };
@@ -152,51 +152,8 @@ fn has_work(grid: &Grid, lists: &TileLists, number: u32) -> bool
     true
 }
 
-/// Paints what waits on the tile of a number, if it is known to become of one colour, and else
-/// makes a job for it.
-///
-/// # Errors
-///
-/// A tile may have been made.
-fn make_work<'a, T: Ledger>(
-    grid: &'a Grid,
-    painter: OpsPainter<'a>,
-    number: u32,
-    work: &mut Work<'a>,
-    tiles: &mut Steps<T>,
-) -> Result<(), AllocError>
-    requires number { number < 4096 }
-    requires col { number % 64 < grid.now.cols }
-    requires row { number / 64 < grid.now.rows }
-    requires some { waits_on painter.lists.now number ≡ 1 }
-    requires cols { work.old.grid.cols ≡ grid.now.cols }
-    requires rows { work.old.grid.rows ≡ grid.now.rows }
-    ensures made { (first : ℕ) → first ≤ number
-        → AreMade (waiting_tile painter.entry.on.width painter.entry.on.height
-        painter.entry.on.commands.now painter.entry.lists.now)
-        first number grid.now work.old.grid work.old.jobs.items
-        → OnOk result (AreMade (waiting_tile painter.entry.on.width painter.entry.on.height
-        painter.entry.on.commands.now painter.entry.lists.now)
-        first (number + 1) grid.now work.new.grid work.new.jobs.items) }
-    ensures tiles_rise { tiles.old ≤ tiles.new }
-    ensures few_tiles { tiles.new ≤ tiles.old + waits_on painter.entry.lists.now number }
-{
-    grid.known();
-    let (col, row) = (number % 64, number / 64);
-    match painter.change(col, row, grid.tile_color(col, row)) {
-        TileChange::Unknown => {
-            let job = TileJob::new(grid, painter, col, row, tiles)?;
-            work.jobs.push(job)?;
-            Ok(())
-        }
-        _ => {
-            work.grid.known();
-            work.grid.paint(col, row, &painter, tiles)
-        }
-    }
-}
-
-/// Makes the job of the tile of a number, if operations wait on it.
+/// Paints what waits on the tile of a number, if any does and the tile is known to become of one
+/// colour, and else makes a job for it.
 ///
 /// # Errors
 ///
@@ -222,10 +179,21 @@ fn make_next<'a, T: Ledger>(
     ensures few_tiles { tiles.new ≤ tiles.old + waits_on painter.entry.lists.now number }
 {
     grid.known();
-    if has_work(grid, painter.lists, number) {
-        return make_work(grid, painter, number, work, tiles);
+    if !has_work(grid, painter.lists, number) {
+        return Ok(());
     }
-    Ok(())
+    let (col, row) = (number % 64, number / 64);
+    match painter.change(col, row, grid.tile_color(col, row)) {
+        TileChange::Unknown => {
+            let job = TileJob::new(grid, painter, col, row, tiles)?;
+            work.jobs.push(job)?;
+            Ok(())
+        }
+        _ => {
+            work.grid.known();
+            work.grid.paint(col, row, &painter, tiles)
+        }
+    }
 }
 
 /// Paints what waits on the tiles of `GROUP` numbers from one on, or makes jobs for them.

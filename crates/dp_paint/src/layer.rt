@@ -11,21 +11,19 @@ ghost use Rattle.dp_pixels.specs.Tiles.{ShowsTile};
 ghost use Rattle.dp_tile.specs.Areas.{is_in_cells};
 ghost use Rattle.dp_tile.specs.Tiles.{grid_pixels};
 ghost use Rattle.dp_paint.specs.Painting.{IsGridOf, IsPainting};
-ghost use Rattle.dp_paint.specs.Ops.{MayWait};
+ghost use Rattle.dp_ops.specs.Ops.{MayWait};
 ghost use Rattle.dp_paint.specs.Reading.{ChangesPixels};
 
 use crate::blank::blank_grid;
 use crate::feet::foot_cells;
-use crate::filing::{Numbered, colors_of, file, file_number, may_wait};
 use crate::in_place::{paint_in_place, paint_lists, settle};
-use crate::lists::TileLists;
 use crate::movement::move_in_place;
-use crate::painter::show_ops;
 use crate::resize::resized_grid;
-use crate::sheet::Sheet;
+use crate::waits::{colors_of, may_wait};
 use crate::workers::{Workers, settle_all};
 use dp_blend::Pixel;
 use dp_msg_draw::Draw;
+use dp_ops::{Numbered, Sheet, TileLists, file, show_ops};
 use dp_pixels::{Resize, pixels_stay_outside_the_foot, the_foot_tells_all};
 use dp_steps::Steps;
 use dp_tile::{CellArea, Grid};
@@ -73,7 +71,8 @@ pub struct DeferredGrid {
 impl Model for DeferredGrid {
     ghost use Rattle.std.specs.Prelude.{◌≡◌};
     ghost use Rattle.dp_paint.specs.Painting.{IsGridOf};
-    ghost use Rattle.dp_paint.specs.Lists.{AllCount, LayerOf, NamesThese, layer_pixels};
+    ghost use Rattle.dp_ops.specs.Lists.{AllCount};
+    ghost use Rattle.dp_paint.specs.Layers.{LayerOf, NamesThese, layer_pixels};
 
     ghost Value = { LayerOf };
 
@@ -211,7 +210,13 @@ impl DeferredGrid {
     {
         pixels_stay_outside_the_foot();
         self.make_room(tiles)?;
-        file(&mut self.lists, self.grid.alloc(), command, area)
+        let source = Numbered {
+            width: self.width,
+            height: self.height,
+            number: 0,
+            command,
+        };
+        file(&mut self.lists, self.grid.alloc(), &source, area)
     }
 
     /// Has an image of `colors` colours wait by its number on the cells of its foot. All that waits
@@ -255,7 +260,7 @@ impl DeferredGrid {
             number: number as u32,
             command,
         };
-        file_number(&mut self.lists, self.grid.alloc(), &source, area)
+        file(&mut self.lists, self.grid.alloc(), &source, area)
     }
 
     /// Whether a `part`-th of the operations that may wait were added: all of them for 1.

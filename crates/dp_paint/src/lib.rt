@@ -6,20 +6,14 @@
 mod blank;
 mod cells;
 mod feet;
-mod fetch;
-mod filing;
 mod in_place;
 mod jobs;
 mod layer;
-mod lists;
 mod movement;
-mod op;
-mod painter;
-mod put;
 mod reading;
 mod resize;
 mod rows;
-mod sheet;
+mod waits;
 mod workers;
 
 pub use blank::blank_grid;

@@ -112,21 +112,8 @@ impl Moved<'_> {
             ≡ blend Mode.Normal (shown self.entry.old.width self.entry.old.height
             self.entry.old.grid.now (x +ℤ pos i) y) (slice_index_or row.old i clear) }
     {
-        let mut lifted = [Pixel::CLEAR; SIDE];
-        self.lay_lifted(x, y, &mut lifted[..row.len()], row);
-    }
-
-    /// Does what `lay_part` does, by way of a copy of the old pixels.
-    fn lay_lifted(self, x: i64, y: i64, lifted: &mut [Pixel], row: &mut [Pixel])
-        requires x { unsigned_abs x < 2 ^ 40 }
-        requires y { unsigned_abs y < 2 ^ 40 }
-        requires len { length row.old ≤ 64 }
-        requires same { length lifted.old ≡ length row.old }
-        ensures len { length row.new ≡ length row.old }
-        ensures places { (i : ℕ) → i < length row.old → slice_index_or row.new i clear
-            ≡ blend Mode.Normal (shown self.entry.old.width self.entry.old.height
-            self.entry.old.grid.now (x +ℤ pos i) y) (slice_index_or row.old i clear) }
-    {
+        let mut pixels = [Pixel::CLEAR; SIDE];
+        let lifted = &mut pixels[..row.len()];
         self.old.read(x, y, lifted);
         lay_row(lifted, row);
     }

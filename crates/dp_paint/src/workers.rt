@@ -8,18 +8,16 @@ ghost use Rattle.dp_pixels.specs.Feet.{reach};
 ghost use Rattle.dp_tile.specs.Areas.{IsPaintedOn};
 ghost use Rattle.dp_tile.specs.Tiles.{grid_pixels};
 ghost use Rattle.dp_paint.specs.Painting.{IsGridOf, IsPainting, pixels_after_all};
-ghost use Rattle.dp_paint.specs.Lists.{AllCount, HaveSome, layer_pixels, listed_at};
+ghost use Rattle.dp_ops.specs.Lists.{AllCount, listed_at};
+ghost use Rattle.dp_paint.specs.Layers.{HaveSome, layer_pixels};
 ghost use Rattle.dp_paint.specs.Jobs.{tiles_waiting};
-ghost use Rattle.dp_paint.specs.Lists.{waiting_tile};
+ghost use Rattle.dp_ops.specs.Lists.{waiting_tile};
 ghost use Rattle.dp_paint.specs.Jobs.{band_at};
 
 use crate::feet::cells_of;
-use crate::filing::{Numbered, file, file_number, is_fill_or_dabs};
 use crate::jobs::{GROUP, make_jobs, write_jobs};
-use crate::lists::{Finish, TileLists};
-use crate::painter::OpsPainter;
-use crate::sheet::Sheet;
 use dp_msg_draw::Draw;
+use dp_ops::{Finish, Numbered, OpsPainter, Sheet, TileLists, file};
 use dp_par::par_each;
 use dp_pixels::pixels_stay_outside_the_foot;
 use dp_steps::Steps;
@@ -136,16 +134,13 @@ fn file_command(
     pixels_stay_outside_the_foot();
     grid.known();
     let area = cells_of(command, grid.cols(), grid.rows());
-    if is_fill_or_dabs(command) {
-        return file(lists, grid.alloc(), command, area);
-    }
     let source = Numbered {
         width: on.width,
         height: on.height,
         number,
         command,
     };
-    file_number(lists, grid.alloc(), &source, area)
+    file(lists, grid.alloc(), &source, area)
 }
 
 /// Has all commands wait on the tiles of a grid that they reach.

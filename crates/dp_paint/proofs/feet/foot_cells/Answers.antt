@@ -4,7 +4,7 @@ use Rattle.std.proofs.lemmas.Bool.{cases_Bool}
 use Rattle.dp_pixels.specs.declared.feet.Footprint.{Footprint}
 use Rattle.dp_pixels.specs.Feet.{is_in_foot}
 use Rattle.dp_pixels.specs.Rectangles.{is_in}
-use Rattle.dp_paint.proofs.Waits.{in_joined}
+use Rattle.dp_paint.proofs.FootLemmas.{in_joined}
 use Rattle.dp_paint.proofs.feet.foot_cells.Goals as goal
 
 pub returns-in-MoveRect-clause-all : goal.returns-in-MoveRect-clause-all

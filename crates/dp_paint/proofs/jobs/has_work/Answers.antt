@@ -1,6 +1,6 @@
 use Rattle.std.proofs.Common.{◌≡◌, ◌∙◌, ◌%◌, ◌/◌, arith, sym}
 use Rattle.dp_paint.proofs.Counts.{waits_some}
-use Rattle.dp_paint.proofs.Layers.{known_none}
+use Rattle.dp_ops.proofs.Ops.{known_none}
 use Rattle.dp_paint.proofs.jobs.has_work.Goals as goal
 
 pub returns-then-is_empty-clause-none : goal.returns-then-is_empty-clause-none

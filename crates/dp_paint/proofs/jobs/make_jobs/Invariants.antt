@@ -1,6 +1,6 @@
 use Rattle.std.proofs.Common.{◌+◌, ◌≤◌}
 use Rattle.dp_paint.specs.Jobs.{AreMade}
-use Rattle.dp_paint.specs.Lists.{waiting_tile}
+use Rattle.dp_ops.specs.Lists.{waiting_tile}
 use Rattle.dp_paint.specs.Jobs.{tiles_waiting}
 use Rattle.dp_paint.proofs.jobs.make_jobs.Given as goal
 

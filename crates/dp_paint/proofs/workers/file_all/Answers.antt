@@ -1,7 +1,7 @@
 use Rattle.std.proofs.Common.{ap, arith, refl}
 use Rattle.std.proofs.lemmas.List.Sums.{sum_by_more}
 use Rattle.dp_pixels.specs.Feet.{reach}
-use Rattle.dp_paint.specs.Lists.{Lists}
+use Rattle.dp_ops.specs.Lists.{Lists}
 use Rattle.dp_paint.proofs.Layers.{no_lists}
 use Rattle.dp_paint.proofs.Bands.{after_more, empty_counts, empty_waits}
 use Rattle.dp_paint.proofs.workers.file_all.Goals as goal

@@ -2,7 +2,8 @@ use Rattle.std.proofs.Common.{◌≡◌, ◌≤◌, take}
 use Rattle.std.specs.List.{sum_by}
 use Rattle.dp_pixels.specs.Feet.{reach}
 use Rattle.dp_tile.specs.Tiles.{grid_pixels}
-use Rattle.dp_paint.specs.Lists.{AllCount, layer_pixels}
+use Rattle.dp_ops.specs.Lists.{AllCount}
+use Rattle.dp_paint.specs.Layers.{layer_pixels}
 use Rattle.dp_paint.specs.Jobs.{tiles_waiting}
 use Rattle.dp_paint.specs.Painting.{pixels_after_all}
 use Rattle.dp_paint.proofs.workers.file_all.Given as goal

@@ -1,6 +1,6 @@
 use Rattle.std.proofs.Common.{◌∙◌, ap, sym}
 use Rattle.dp_tile.specs.Tiles.{TileGrid}
-use Rattle.dp_paint.specs.Lists.{layer_pixels}
+use Rattle.dp_paint.specs.Layers.{layer_pixels}
 use Rattle.dp_paint.proofs.Bands.{none_waits}
 use Rattle.dp_paint.proofs.workers.paint_part.Goals as goal
 

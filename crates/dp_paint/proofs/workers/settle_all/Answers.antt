@@ -1,9 +1,9 @@
 use Rattle.std.proofs.Common.{◌∙◌, ◌+◌, ◌*◌, arith, refl}
-use Rattle.dp_paint.specs.declared.lists.Finish.TheVariants.{Clear}
+use Rattle.dp_ops.specs.declared.lists.Finish.TheVariants.{Clear}
 use Rattle.dp_paint.specs.Jobs.{band_at}
 use Rattle.dp_paint.proofs.Counts.{waiting_to}
 use Rattle.dp_paint.proofs.Layers.{painted_grid, settled}
-use Rattle.dp_paint.proofs.Waits.{all_counts}
+use Rattle.dp_ops.proofs.Waits.{all_counts}
 use Rattle.dp_paint.proofs.Named.{done_some}
 use Rattle.dp_paint.proofs.Bands.{band_count, band_empty, band_rest}
 use Rattle.dp_paint.proofs.workers.settle_all.Goals as goal

@@ -1,5 +1,6 @@
 use Rattle.std.proofs.Common.{◌≡◌, ◌+◌, ◌*◌, ◌<◌, ◌≤◌, ℕ, []}
-use Rattle.dp_paint.specs.Lists.{AllCount, layer_pixels, listed_at}
+use Rattle.dp_ops.specs.Lists.{AllCount, listed_at}
+use Rattle.dp_paint.specs.Layers.{layer_pixels}
 use Rattle.dp_paint.specs.Jobs.{tiles_waiting}
 use Rattle.dp_paint.specs.Painting.{IsGridOf}
 use Rattle.dp_paint.proofs.workers.settle_all.Given as goal

@@ -2,7 +2,7 @@ use Rattle.std.proofs.Common.{◌∙◌, ap}
 use Rattle.std.proofs.lemmas.Result.{on_ok_weaker}
 use Rattle.dp_msg_draw.specs.declared.draw.Draw.{Draw}
 use Rattle.dp_pixels.specs.Commands.{pixels_after}
-use Rattle.dp_paint.specs.Lists.{LayerOf}
+use Rattle.dp_paint.specs.Layers.{LayerOf}
 use Rattle.dp_canvas.proofs.DeferredLayers.{painted_layer}
 use Rattle.dp_canvas.proofs.deferred.DeferredPixelsLayerPixels.paint.Goals as goal
 

@@ -1,7 +1,7 @@
 use Rattle.std.proofs.Common.{ap, ◌∙◌}
 use Rattle.dp_pixels.specs.declared.resize.Resize.{Resize}
 use Rattle.dp_pixels.specs.Resizes.{pixels_resized}
-use Rattle.dp_paint.specs.Lists.{LayerOf}
+use Rattle.dp_paint.specs.Layers.{LayerOf}
 use Rattle.dp_canvas.proofs.DeferredLayers.{resized_layer}
 use Rattle.dp_canvas.proofs.deferred.DeferredPixelsLayerPixels.resize.Goals as goal
 

@@ -1,5 +1,5 @@
 use Rattle.std.proofs.Common.{ap}
-use Rattle.dp_paint.specs.Lists.{Lists}
+use Rattle.dp_ops.specs.Lists.{Lists}
 use Rattle.dp_paint.proofs.Layers.{blank_layer}
 use Rattle.dp_paint.proofs.layer.DeferredGrid.blank.Goals as goal
 

@@ -1,5 +1,5 @@
 use Rattle.std.proofs.Common.{◌≡◌, ◌*◌, length, subst}
-use Rattle.dp_paint.specs.Lists.{LayerOf}
+use Rattle.dp_paint.specs.Layers.{LayerOf}
 use Rattle.dp_paint.proofs.Layers.{length-layer}
 use Rattle.dp_paint.proofs.layer.DeferredGrid.known.Goals as goal
 

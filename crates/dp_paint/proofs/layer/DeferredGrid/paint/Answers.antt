@@ -3,12 +3,13 @@ use Rattle.std.proofs.lemmas.Result.{on_err_weaker, on_ok_weaker}
 use Rattle.dp_pixels.specs.Commands.{pixels_after}
 use Rattle.dp_msg_draw.specs.declared.draw.Draw.{Draw}
 use Rattle.dp_tile.specs.Areas.{IsPaintedOn}
-use Rattle.dp_paint.specs.Lists.{LayerOf, Waiting, waiting_tile}
-use Rattle.dp_paint.specs.declared.lists.Finish.TheVariants.{Clear}
+use Rattle.dp_paint.specs.Layers.{LayerOf}
+use Rattle.dp_ops.specs.Lists.{Waiting, waiting_tile}
+use Rattle.dp_ops.specs.declared.lists.Finish.TheVariants.{Clear}
 use Rattle.dp_paint.specs.Painting.{IsGridOf}
 use Rattle.dp_paint.proofs.Layers.{always_on_err, drawn_under, either, layer_after, painted_grid}
 use Rattle.dp_paint.proofs.Layers.{same_layer, settled}
-use Rattle.dp_paint.proofs.Waits.{all_counts}
+use Rattle.dp_ops.proofs.Waits.{all_counts}
 use Rattle.dp_paint.proofs.Named.{cleared_some, some_name}
 use Rattle.dp_paint.proofs.layer.DeferredGrid.paint.Goals as goal
 

@@ -1,7 +1,7 @@
-use Rattle.std.proofs.Common.{◌/◌, ◌%◌, ◌≤◌, ◌∙◌, ap, length, arith, refl}
-use Rattle.dp_paint.specs.declared.op.TileOp.{TileOp}
-use Rattle.dp_paint.specs.Ops.{on_tile, op_at}
-use Rattle.dp_paint.proofs.Ops.{ops_next}
+use Rattle.std.proofs.Common.{◌/◌, ◌%◌, ◌≤◌, ◌∙◌, ap, length, arith}
+use Rattle.dp_ops.specs.declared.op.TileOp.{TileOp}
+use Rattle.dp_ops.specs.Ops.{on_tile, op_at}
+use Rattle.dp_ops.proofs.Ops.{ops_next}
 use Rattle.dp_paint.proofs.Layers.{pixel_of_layer}
 use Rattle.dp_paint.proofs.Named.{by_commands}
 use Rattle.dp_paint.proofs.layer.DeferredGrid.pixel.Goals as goal

@@ -1,5 +1,5 @@
 use Rattle.std.proofs.Common.{◌≡◌, ◌/◌, ◌%◌, take}
-use Rattle.dp_paint.specs.Ops.{on_tile, ops_at}
+use Rattle.dp_ops.specs.Ops.{on_tile, ops_at}
 use Rattle.dp_paint.proofs.layer.DeferredGrid.pixel.Given as goal
 
 -- the operations before the index are done

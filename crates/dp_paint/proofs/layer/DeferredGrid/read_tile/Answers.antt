@@ -1,7 +1,7 @@
 use Rattle.std.proofs.Common.{◌∙◌, List, ap}
 use Rattle.dp_msg_draw.specs.declared.draw.Draw.{Draw}
 use Rattle.dp_tile.specs.Tiles.{tile_pixels}
-use Rattle.dp_paint.specs.Ops.{on_tile, tile_after}
+use Rattle.dp_ops.specs.Ops.{on_tile, tile_after}
 use Rattle.dp_paint.proofs.Layers.{read_cell, shows_layer}
 use Rattle.dp_paint.proofs.layer.DeferredGrid.read_tile.Goals as goal
 

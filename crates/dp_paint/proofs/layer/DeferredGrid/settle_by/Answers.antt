@@ -1,5 +1,5 @@
 use Rattle.std.proofs.Common.{◌∙◌, ap, arith, sym}
-use Rattle.dp_paint.specs.Lists.{Lists}
+use Rattle.dp_ops.specs.Lists.{Lists}
 use Rattle.dp_paint.proofs.Counts.{waiting_few}
 use Rattle.dp_paint.proofs.Layers.{no_lists, same_layer}
 use Rattle.dp_paint.proofs.Bands.{none_waits}

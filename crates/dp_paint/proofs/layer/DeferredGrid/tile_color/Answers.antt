@@ -1,9 +1,10 @@
 use Rattle.std.proofs.Common.{◌≡◌, [], Some}
 use Rattle.dp_pixels.specs.Tiles.{ShowsTile}
 use Rattle.dp_tile.specs.Tiles.{cell_at, tile_of}
-use Rattle.dp_paint.specs.Ops.{on_tile}
-use Rattle.dp_paint.proofs.Ops.{shows_none}
-use Rattle.dp_paint.proofs.Layers.{known_none, shows_layer, some_then}
+use Rattle.dp_ops.specs.Ops.{on_tile}
+use Rattle.dp_ops.proofs.Ops.{shows_none}
+use Rattle.dp_ops.proofs.Ops.{known_none}
+use Rattle.dp_paint.proofs.Layers.{shows_layer, some_then}
 use Rattle.dp_paint.proofs.layer.DeferredGrid.tile_color.Goals as goal
 
 pub returns-then-is_empty : goal.returns-then-is_empty

@@ -1,6 +1,8 @@
 use Rattle.std.proofs.Common.{◌∙◌, ap, sym}
 use Rattle.std.proofs.lemmas.Result.{on_err_weaker, on_ok_weaker}
-use Rattle.dp_paint.specs.Lists.{LayerOf, NamesThese, anywhere}
+use Rattle.dp_paint.specs.Layers.{LayerOf, NamesThese}
+use Rattle.dp_ops.specs.Lists.{StandsOn}
+use Rattle.dp_ops.proofs.Filed.{waits_stand}
 use Rattle.dp_paint.proofs.Layers.{filed_layer, layer_after, same_layer, same_pixels}
 use Rattle.dp_paint.proofs.Layers.{either, waits_paint}
 use Rattle.dp_paint.proofs.Named.{filed_names, same_some, some_name}
@@ -11,6 +13,8 @@ invariant_of-self g c =
     let inside = c.self.inside in
     let images = inside.images.items in
     let is_of = c.self.invariant.0 in
+    let op = c.args.command.now in
+    let stands = StandsOn inside.width inside.height 0 op in
     let old = inside.lists in
     let new = c.file.new.lists in
     let Named = NamesThese inside.width inside.height images new in (
@@ -19,8 +23,9 @@ invariant_of-self g c =
       c.file.ensures.counts,
       either c.file.result Named
           (on_ok_weaker c.file.result
-          (λ filed. filed_names inside.width inside.height images anywhere c.args.command.now
-          c.args.area old new is_of.wide (λ col row. tt) (λ more col row. tt) filed
+          (λ filed. filed_names inside.width inside.height images stands op
+          c.args.area old new is_of.wide (λ col row. waits_stand _ _ 0 op _ c.requires.command)
+          (λ more col row. waits_stand _ _ 0 op _ c.requires.command) filed
           c.self.invariant.3)
           c.file.ensures.filed)
           (on_err_weaker c.file.result
@@ -41,9 +46,10 @@ returns-clause-ok g c =
     (λ filed.
     layer_after c.args.self.now inside.width inside.height inside.images.items op inside.lists
     c.file.new.lists inside.grid inside.grid view
-    (filed_layer inside.width inside.height inside.images.items anywhere op
+    (filed_layer inside.width inside.height inside.images.items
+    (StandsOn inside.width inside.height 0 op) op
     c.pixels_stay_outside_the_foot.ensures (waits_paint op c.requires.command)
-    (λ col row. tt) c.args.area inside.lists c.file.new.lists
+    (λ col row. waits_stand _ _ 0 op _ c.requires.command) c.args.area inside.lists c.file.new.lists
     inside.grid is_of.wide is_of.high
     (λ x y in_x in_y f. c.requires.all x y (rw (sym wide) in_x) (rw (sym high) in_y) f) filed))
     c.file.ensures.filed

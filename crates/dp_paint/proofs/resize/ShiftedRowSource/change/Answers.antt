@@ -1,17 +1,13 @@
-use Rattle.std.proofs.Common.{◌≡◌, ◌∙◌, ◌+◌, ◌*◌, ℕ, ap, sym, arith, rules, SFits, w32, w64}
+use Rattle.std.proofs.Common.{◌∙◌, ◌+◌, ◌*◌, ap, sym, arith, rules, SFits, w32, w64}
 use Rattle.std.specs.Prelude.{ℤ, pos, ◌+ℤ◌, ◌-ℤ◌}
-use Rattle.std.proofs.lemmas.Int.{ints, to_z-of_z}
+use Rattle.std.proofs.lemmas.Int.{to_z-of_z}
 use Rattle.dp_blend.specs.Color.{clear}
 use Rattle.dp_blend.specs.Canvas.{pixel_at}
 use Rattle.dp_tile.proofs.Tiles.{pixel-tile_of}
 use Rattle.dp_paint.specs.Reading.{shown}
+use Rattle.dp_paint.proofs.Moving.{tile_place}
 use Rattle.dp_paint.proofs.Tiles.{is_tile_from}
 use Rattle.dp_paint.proofs.resize.ShiftedRowSource.change.Goals as goal
-
--- a place of a tile, so far back
-back : (tile i : ℕ) (by z : ℤ) → z ≡ pos (tile * 64) -ℤ by
-    → pos (tile * 64 + i) -ℤ by ≡ z +ℤ pos i
-back tile i by z is = omega (arith, ints, is)
 
 pub returns-then-is_clear : goal.returns-then-is_clear
 returns-then-is_clear c = λ pixels count of_color.
@@ -28,7 +24,7 @@ returns-then-is_clear c = λ pixels count of_color.
     (λ i j in_x in_y. ap (λ all. pixel_at 64 all i j) plain
     ∙ pixel-tile_of clear (j * 64 + i) (omega (arith, in_x, in_y))
     ∙ sym (ap (λ z. old z (pos (c.args.row * 64 + j) -ℤ s.top))
-    (back c.args.col i s.left c.tile_back-x.result at_x)
+    (tile_place c.args.col i s.left c.tile_back-x.result at_x)
     ∙ ap (old (c.tile_back-x.result +ℤ pos i))
-    (back c.args.row j s.top c.tile_back-y.result at_y)
+    (tile_place c.args.row j s.top c.tile_back-y.result at_y)
     ∙ (simp to_z-of_z at c.is_clear.ensures) c.if-is_clear.true i j in_x in_y)))

@@ -1,0 +1,4 @@
+pub mod Drawn
+pub mod Puts
+pub mod Ops
+pub mod Lists

@@ -1,8 +1,0 @@
-use Rattle.std.proofs.Common.{◌≡◌, ℕ, ◌<◌, take}
-use Rattle.dp_paint.specs.Ops.{OnTile, ops_at}
-use Rattle.dp_paint.proofs.painter.color_after.Given as goal
-
--- the operations before the index make the tile of this colour
-abbrev pub invariant-loop-op : goal.invariant-loop-op
-invariant-loop-op l = (t : OnTile) (x y : ℕ) → x < 64 → y < 64
-    → ops_at t (take l.op-index l.ops) x y l.initial.color ≡ l.color
