@@ -77,14 +77,14 @@ pub fn write_p3<V: BoardView, S: Sink>(
     write_picture(alloc, Format::P3, board, out)
 }
 
-/// Writes the picture of the board as a P6 file. `workers` workers draw a row of tiles each at the
-/// same time, if 0 is 1. A row of tiles passes the gate by its place among those that are drawn
-/// with it. A piece of at most 49152 bytes is written at a time.
+/// Writes the picture of the board as a P6 file. `workers` workers, if 0 is 1, draw rows of tiles
+/// at the same time, up to two each. A row of tiles passes the gate by its place among those that
+/// are drawn with it. A piece of at most 49152 bytes is written at a time.
 ///
 /// # Errors
 ///
-/// `Memory` if memory is refused, of which each worker needs as much as `write_p6`: nothing was
-/// written. `Failed` if the sink failed: a prefix of the file was written.
+/// `Memory` if memory is refused, of which each row of tiles needs as much as `write_p6`: nothing
+/// was written. `Failed` if the sink failed: a prefix of the file was written.
 pub fn write_p6_by<R: Threads + Sync, V: BoardView + Sync, S: Sink, G: Gate>(
     rt: &R,
     alloc: Global,
@@ -102,8 +102,13 @@ pub fn write_p6_by<R: Threads + Sync, V: BoardView + Sync, S: Sink, G: Gate>(
     ensures cause { HasCause is_sink_fault (S.faults out.old) (S.faults out.new) result }
 {
     let rows = tiles_along(board.height());
-    let mut jobs = make_jobs(alloc, board, workers.min(rows).max(1))?;
-    put_by(rt, gate, Format::P6, board, &mut jobs, out)?;
+    let together = if workers < 2 {
+        1
+    } else {
+        workers.saturating_mul(2)
+    };
+    let mut jobs = make_jobs(alloc, board, together.min(rows).max(1))?;
+    put_by(rt, workers, gate, Format::P6, board, &mut jobs, out)?;
     Ok(())
 }
 
@@ -174,9 +179,10 @@ fn put_picture<V: BoardView, S: Sink>(
     put_all(out, piece.as_slice())
 }
 
-/// Writes the picture of the board in the format, its rows of tiles drawn in the jobs.
+/// Writes the picture of the board in the format, its rows of tiles drawn in the jobs by workers.
 fn put_by<R: Threads + Sync, V: BoardView + Sync, S: Sink, G: Gate>(
     rt: &R,
+    workers: u32,
     gate: &G,
     format: Format,
     board: &V,
@@ -196,7 +202,7 @@ fn put_by<R: Threads + Sync, V: BoardView + Sync, S: Sink, G: Gate>(
     push_all(head_of(format, width, height).as_bytes(), &mut piece);
     let mut slot = 0;
     for row in 0..tiles_along(height) {
-        make_ready(rt, gate, board, jobs, row, slot);
+        make_ready(rt, workers, gate, board, jobs, row, slot);
         put_job(format, board, row, &jobs[slot], &mut solid, &mut piece, out)?;
         slot = next_slot(slot, jobs.len());
     }

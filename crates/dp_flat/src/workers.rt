@@ -165,6 +165,7 @@ fn turn_jobs<V: BoardView>(jobs: &mut [BandJob<'_, V>], first: u32)
 /// Draws the rows of tiles from one on in the jobs, as far as the board goes.
 fn draw_jobs<R: Threads + Sync, V: BoardView + Sync, G: Gate>(
     rt: &R,
+    workers: u32,
     gate: &G,
     board: &V,
     jobs: &mut [BandJob<'_, V>],
@@ -178,13 +179,14 @@ fn draw_jobs<R: Threads + Sync, V: BoardView + Sync, G: Gate>(
 {
     let _ = board;
     turn_jobs(jobs, first);
-    par_each(rt, jobs.len() as u32, gate, jobs);
+    par_each(rt, workers, gate, jobs);
 }
 
 /// If the slot is the first one, has a row of tiles be drawn in its job. Those after it are drawn
 /// in the jobs after that. Else the row was drawn with that of the first slot.
 pub(crate) fn make_ready<R: Threads + Sync, V: BoardView + Sync, G: Gate>(
     rt: &R,
+    workers: u32,
     gate: &G,
     board: &V,
     jobs: &mut [BandJob<'_, V>],
@@ -200,7 +202,7 @@ pub(crate) fn make_ready<R: Threads + Sync, V: BoardView + Sync, G: Gate>(
     ensures drawn { AreDrawnFrom (row - slot) (V.board board.now) jobs.new }
 {
     if slot == 0 {
-        draw_jobs(rt, gate, board, jobs, row - slot as u32);
+        draw_jobs(rt, workers, gate, board, jobs, row - slot as u32);
     }
 }
 

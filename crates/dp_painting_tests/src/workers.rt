@@ -81,8 +81,8 @@ fn gives_up<R: Threads + Sync + Abort>(
     gate.gave_up.load(Ordering::SeqCst) == 1
 }
 
-/// A picture of three rows of tiles, the last one cut, by some numbers of workers. Two of them are
-/// drawn at the same time if there are two workers or more.
+/// A picture of two rows of tiles, the last one cut, by some numbers of workers. Both are drawn at
+/// the same time if there are two workers or more.
 fn check_workers<R: Threads + Sync + Abort, D: Ledger, T: Ledger>(
     rt: &R,
     alloc: Global,
@@ -97,7 +97,7 @@ fn check_workers<R: Threads + Sync + Abort, D: Ledger, T: Ledger>(
     let mut draws = Steps::<D>::new(draw_blank);
     let mut tiles = Steps::<T>::new(tile_blank);
     let commands = [
-        resize(70, 130),
+        resize(70, 120),
         create(alloc, 1, 0, false),
         fill(3, 5, 66, 70, 0xff12_3456),
         fill(0, 100, 70, 29, 0x8065_4321),
@@ -106,7 +106,7 @@ fn check_workers<R: Threads + Sync + Abort, D: Ledger, T: Ledger>(
     let mut sink = MemSink::new(alloc, 60_000, 60_000, Vec::new(alloc)).expect(rt, "memory");
     assert_eq!(rt; write_p6(alloc, &board, &mut sink), Ok(()));
     let want = sink.as_slice();
-    assert_eq!(rt; want.len(), 14 + 70 * 130 * 3);
+    assert_eq!(rt; want.len(), 14 + 70 * 120 * 3);
     assert!(rt; gives_up(rt, alloc, &board, 0, want));
     assert!(rt; gives_up(rt, alloc, &board, 1, want));
     assert!(rt; !gives_up(rt, alloc, &board, 2, want));
