@@ -31,11 +31,7 @@ still-message : (sender : ℕ) (m : Msg) → undoes_nothing m ≡ true
     → IsStill (act_of_message sender m)
 still-message sender (msg.Meta m) nothing = still-meta m nothing
 still-message sender (msg.Undo target redo) nothing = let wrong : false ≡ true = nothing in cc
-still-message sender msg.Point nothing = record { moves = λ s. refl; depth = refl }
-still-message sender (msg.Draw command) nothing = record { moves = λ s. refl; depth = refl }
-still-message sender (msg.Control m) nothing = record { moves = λ s. refl; depth = refl }
-still-message sender (msg.Part command) nothing = record { moves = λ s. refl; depth = refl }
-still-message sender (msg.Opaque kind body) nothing = record { moves = λ s. refl; depth = refl }
+still-message sender _ nothing = record { moves = λ s. refl; depth = refl }
 
 abbrev AreStill : List (UserAct Draw) → Type 0
 AreStill acts = AllByRecursion (λ a. IsStill a.act) acts

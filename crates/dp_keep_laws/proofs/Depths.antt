@@ -1,5 +1,5 @@
 -- An epoch opens with the depth of undo that was in force before it.
-use Rattle.std.proofs.Common.{◌≡◌, ℕ, suc, ◌-◌, true, false, List, [], ◌∷◌, ◌++◌, length, map}
+use Rattle.std.proofs.Common.{◌≡◌, ℕ, suc, ◌-◌, true, List, [], ◌∷◌, ◌++◌, length, map}
 use Rattle.std.proofs.Common.{Option, None, Some, is_some, unwrap_or, refl, ap, sym, ◌∙◌, arith}
 use Rattle.std.specs.Prelude.{option_to_list, option_map}
 use Rattle.std.specs.List.{AllByRecursion, filter_map, cons_option, slice_get}
@@ -29,13 +29,8 @@ depth-meta m = refl
 
 depth-message : (sender : ℕ) (m : Msg) → depth_in (act_of_message sender m) ≡ set_depth m
 depth-message sender (msg.Meta m) = depth-meta m
-depth-message sender (msg.Draw command) = refl
-depth-message sender (msg.Control m) = refl
-depth-message sender (msg.Part command) = refl
-depth-message sender msg.Point = refl
 depth-message sender (msg.Undo target true) = refl
-depth-message sender (msg.Undo target false) = refl
-depth-message sender (msg.Opaque kind body) = refl
+depth-message sender _ = refl
 
 depth-append : (depth : ℕ) (xs ys : List Entry)
     → depth_from depth (xs ++ ys) ≡ depth_from (depth_from depth xs) ys

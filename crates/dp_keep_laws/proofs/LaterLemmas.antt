@@ -12,12 +12,11 @@ use Rattle.std.proofs.lemmas.List.Folds.{find-append}
 use Rattle.std.proofs.Math.Seq.{drop-append-add, take-append-add}
 use Rattle.std.proofs.Math.ListN.{drop_of_length-le}
 use Rattle.dp_board.specs.declared.act.Act.{Act}
-use Rattle.dp_board.specs.declared.act.Act.TheVariants.{Point, Undo, Redo, Draw, Depth, Other}
+use Rattle.dp_board.specs.declared.act.Act.TheVariants.{Point, Undo, Redo, Draw, Depth}
 use Rattle.dp_board.specs.declared.act.UserAct.{UserAct}
-use Rattle.dp_board.specs.Strokes.{Window, Groups, Strokes, last_few, cut, window_with}
-use Rattle.dp_board.specs.Strokes.{is_among, is_eligible, last_of, without_last, without}
-use Rattle.dp_board.specs.Strokes.{where_eligible, moved, groups_with, groups_after}
-use Rattle.dp_board.specs.Strokes.{concerned, after_act}
+use Rattle.dp_board.specs.Strokes.{Window, Groups, Strokes, last_few, cut, window_with, is_among}
+use Rattle.dp_board.specs.Strokes.{is_eligible, last_of, without_last, without, where_eligible}
+use Rattle.dp_board.specs.Strokes.{moved, groups_with, groups_after, concerned, after_act}
 use Rattle.dp_board.proofs.TimesLemmas.{one, times, one_same, one_other, times-append, times-drop}
 use Rattle.dp_board.proofs.TimesLemmas.{is_among-none, is_among-some, times-none, times-some}
 use Rattle.dp_board.proofs.TimesLemmas.{without_last-push, find-among}
@@ -143,12 +142,9 @@ later-window_with n p q Point v w same h = record {
   points = ap (λ ps. ps ++ p ∷ []) h.points ∙ append_assoc h.olds (map (up n) w.points) (p ∷ [])
       ∙ ap (λ ps. h.olds ++ ps) (push-up n p q w.points same);
 }
-later-window_with n p q (Undo who) v w same h = h
-later-window_with n p q (Redo who) v w same h = h
-later-window_with n p q (Draw op) v w same h = h
 later-window_with n p q (Depth d) v w same h =
     record { depth = refl; olds = h.olds; old = h.old; points = h.points }
-later-window_with n p q Other v w same h = h
+later-window_with n p q _ v w same h = h
 
 later-cut : (n : ℕ) (v w : Window) → LaterWindow n v w → LaterWindow n (cut v) (cut w)
 later-cut n v w h =
@@ -251,10 +247,7 @@ later-moved n first s t (Redo who) old h young =
     ap (find (is_eligible s.window)) h.groups.undone
     ∙ later-redoable n s.window t.window h.window t.groups.undone h.groups.olds h.groups.old
     (subst (λ xs. IsYoung n (find (is_eligible s.window) xs)) h.groups.undone young)
-later-moved n first s t Point old h young = refl
-later-moved n first s t (Draw op) old h young = refl
-later-moved n first s t (Depth d) old h young = refl
-later-moved n first s t Other old h young = refl
+later-moved n first s t _ old h young = refl
 
 later-without_last : (n : ℕ) (first done : List ℕ) (g : ℕ) → last_of done ≡ Some g
     → without_last (first ++ map (up n) done) ≡ first ++ map (up n) (without_last done)
@@ -290,7 +283,6 @@ later-groups_with n first s t Point o is h = record {
   old = λ g above. refl;
   undone = refl;
 }
-later-groups_with n first s t (Undo who) None is h = h.groups
 later-groups_with n first s t (Undo who) (Some group) is h = record {
   done = ap without_last h.groups.done
       ∙ later-without_last n first t.groups.done group
@@ -299,7 +291,6 @@ later-groups_with n first s t (Undo who) (Some group) is h = record {
   old = h.groups.old;
   undone = ap (λ xs. up n group ∷ xs) h.groups.undone;
 }
-later-groups_with n first s t (Redo who) None is h = h.groups
 later-groups_with n first s t (Redo who) (Some group) is h = record {
   done = later-push n first (up n group) group s.groups.done t.groups.done refl h.groups.done;
   olds = h.groups.olds;
@@ -310,8 +301,7 @@ later-groups_with n first s t (Redo who) (Some group) is h = record {
 }
 later-groups_with n first s t (Draw op) o is h =
     record { done = h.groups.done; olds = []; old = λ g above. refl; undone = refl }
-later-groups_with n first s t (Depth d) o is h = h.groups
-later-groups_with n first s t Other o is h = h.groups
+later-groups_with n first s t _ _ is h = h.groups
 
 later-groups_after : {Op : Type 0} → (n : ℕ) (first : List ℕ) (s t : Strokes) (act : Act Op)
     → IsOld n first → Later n first s t → IsYoung n (moved s act)

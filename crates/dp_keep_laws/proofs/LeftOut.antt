@@ -55,12 +55,10 @@ other-meta m free = refl
 other-message : (sender : ℕ) (m : Msg) → goes_over m ≡ false
     → depth_in (act_of_message sender m) ≡ None → act_of_message sender m ≡ Other
 other-message sender (msg.Meta m) stays free = other-meta m free
-other-message sender (msg.Draw command) stays free = let wrong : true ≡ false = stays in cc
-other-message sender msg.Point stays free = let wrong : true ≡ false = stays in cc
-other-message sender (msg.Undo target redo) stays free = let wrong : true ≡ false = stays in cc
 other-message sender (msg.Control m) stays free = refl
 other-message sender (msg.Part command) stays free = refl
 other-message sender (msg.Opaque kind body) stays free = refl
+other-message sender _ stays free = let wrong : true ≡ false = stays in cc
 
 pub left_out : (entries : List Entry) → HasNoDepth (map user_act_of entries)
     → AllByRecursion (IsLeftOut (λ e. goes_over e.msg)) entries

@@ -1,12 +1,10 @@
 -- What an epoch opens with shows the commands of its reset, and what comes after it goes on from
 -- there.
-use Rattle.std.proofs.Common.{◌≡◌, ℕ, zero, suc, ◌==◌, Bool, true, false, cond, List, [], ◌∷◌}
-use Rattle.std.proofs.Common.{◌++◌, map, fold, Option, None, Some, is_some, refl, ap, sym, subst}
-use Rattle.std.proofs.Common.{◌∙◌, append_assoc}
-use Rattle.std.proofs.Common.{⊎_elim, length}
+use Rattle.std.proofs.Common.{◌≡◌, ℕ, ◌==◌, true, false, List, [], ◌∷◌, ◌++◌, map, fold, Option}
+use Rattle.std.proofs.Common.{None, Some, is_some, refl, ap, sym, ◌∙◌, append_assoc, length}
 use Rattle.std.specs.Prelude.{◌-◌}
-use Rattle.std.specs.List.{AllByRecursion, filter, filter_map, cons_option, slice_get}
-use Rattle.std.proofs.lemmas.Bool.{cases_Bool, and_parts}
+use Rattle.std.specs.List.{AllByRecursion, filter_map, cons_option}
+use Rattle.std.proofs.lemmas.Bool.{and_parts}
 use Rattle.std.proofs.lemmas.List.{append-nil, map-append}
 use Rattle.std.proofs.lemmas.List.Sums.{fold-append}
 use Rattle.dp_msg_draw.specs.declared.draw.Draw.{Draw}
@@ -22,9 +20,10 @@ use Rattle.dp_plain.specs.Board.{empty_board}
 use Rattle.dp_plain.specs.Commands.{draw, draw_all}
 use Rattle.dp_replay.specs.Replay.{replay, replay_from, act_of_meta, act_of_message, user_act_of}
 use Rattle.dp_replay.specs.Replay.{undo_depth, depth_in_force}
-use Rattle.dp_acl.specs.LookBack.{joined, is_join_of}
+use Rattle.dp_acl.specs.LookBack.{joined}
 use Rattle.dp_acl.specs.Carried.{carried}
 use Rattle.dp_acl.specs.Opening.{server_entry, command_entry, last_join, opening}
+use Rattle.dp_epochs.proofs.OpeningLemmas.{last-joined}
 use Rattle.dp_keep_laws.proofs.Depths.{joins-none, depth-opening}
 
 -- the message moves no strokes
@@ -54,11 +53,7 @@ meta-no_point m = refl
 act-no_point : (sender : ℕ) (m : Msg) → IsPlain m → is_point (act_of_message sender m) ≡ false
 act-no_point sender (msg.Meta m) plain = meta-no_point m
 act-no_point sender (msg.Draw command) plain = refl
-act-no_point sender (msg.Control m) plain = absurd plain
-act-no_point sender (msg.Part command) plain = absurd plain
-act-no_point sender msg.Point plain = absurd plain
-act-no_point sender (msg.Undo target redo) plain = absurd plain
-act-no_point sender (msg.Opaque kind body) plain = absurd plain
+act-no_point sender _ plain = absurd plain
 
 no_points : (entries : List Entry) → ArePlain entries → HasNoPoint (map user_act_of entries)
 no_points [] plain = tt
@@ -78,11 +73,7 @@ first-command : (sender : ℕ) (m : Msg) (rest : List Draw) → IsPlain m
     ≡ cons_option (properties.command_of m) rest
 first-command sender (msg.Meta m) rest plain = ap (λ ops. ops ++ rest) (meta-no_command m)
 first-command sender (msg.Draw command) rest plain = refl
-first-command sender (msg.Control m) rest plain = absurd plain
-first-command sender (msg.Part command) rest plain = absurd plain
-first-command sender msg.Point rest plain = absurd plain
-first-command sender (msg.Undo target redo) rest plain = absurd plain
-first-command sender (msg.Opaque kind body) rest plain = absurd plain
+first-command sender _ rest plain = absurd plain
 
 all-commands : (entries : List Entry) → ArePlain entries
     → all_commands (map user_act_of entries) ≡ commands_of entries
@@ -130,27 +121,6 @@ metas-append : (xs ys : List Entry) → AreMeta xs → AreMeta ys → AreMeta (x
 metas-append [] ys hx hy = hy
 metas-append (x ∷ xs) ys hx hy = (hx.0, metas-append xs ys hx.1 hy)
 
-found-first : {X : Type 0} (p : X → Bool) (y : X) (ys : List X) (x : X) → p y ≡ true
-    → ((i : ℕ) → slice_get ys i ≡ Some x → p x ≡ true)
-    → (i : ℕ) → slice_get (y ∷ ys) i ≡ Some x → p x ≡ true
-found-first p y ys x passes more zero is =
-    let same : y ≡ x = cc in
-    subst (λ z. p z ≡ true) same passes
-found-first p y ys x passes more (suc i) is = more i is
-
--- what passes a test and was found has passed it
-found-passes : {X : Type 0} (p : X → Bool) (xs : List X) (x : X) (i : ℕ)
-    → slice_get (filter p xs) i ≡ Some x → p x ≡ true
-found-passes p [] x i h = cc
-found-passes {X} p (y ∷ ys) x i h =
-    ⊎_elim (λ (yes : p y ≡ true).
-    found-first p y (filter p ys) x yes (found-passes p ys x) i
-    (subst (λ b. slice_get (cond b (y ∷ filter p ys) (filter p ys)) i ≡ Some x) yes h))
-    (λ (other : p y ≡ false).
-    found-passes p ys x i
-    (subst (λ b. slice_get (cond b (y ∷ filter p ys) (filter p ys)) i ≡ Some x) other h))
-    (cases_Bool (p y))
-
 abbrev AreJoins : List Entry → Type 0
 AreJoins entries = AllByRecursion (λ e. is_some (joined e.msg) ≡ true) entries
 
@@ -165,8 +135,7 @@ joins-joined history [] = tt
 joins-joined history (user ∷ users) =
     one (last_join history user) (filter_map (last_join history) users)
     (λ e is. (and_parts (is_some (joined e.msg)) (e.user == user)
-    (found-passes (is_join_of user) history e (length (filter (is_join_of user) history) - 1)
-    is)).0)
+    (last-joined history user e is)).0)
     (joins-joined history users)
   where
     one : (o : Option Entry) (rest : List Entry)

@@ -6,7 +6,7 @@ use Rattle.std.proofs.lemmas.Bool.{cases_lt}
 use Rattle.std.proofs.lemmas.List.{append-nil}
 use Rattle.std.proofs.lemmas.List.Sums.{fold-append}
 use Rattle.dp_board.specs.declared.act.Act.{Act}
-use Rattle.dp_board.specs.declared.act.Act.TheVariants.{Point, Undo, Redo, Draw, Depth, Other}
+use Rattle.dp_board.specs.declared.act.Act.TheVariants.{Draw}
 use Rattle.dp_board.specs.declared.act.UserAct.{UserAct}
 use Rattle.dp_board.specs.Strokes.{strokes, after_act, moved, concerned, last_of}
 use Rattle.dp_board.specs.Flags.{is_group_drawn, flag_of}
@@ -142,11 +142,7 @@ drawn-flag depth before after done whole part user (Draw op) =
     (part user).groups.done
     ∙ drawn-group n first (done_after d user after) (done_after d user done)
     (done-old depth user before)
-drawn-flag depth before after done whole part user Point = refl
-drawn-flag depth before after done whole part user (Undo who) = refl
-drawn-flag depth before after done whole part user (Redo who) = refl
-drawn-flag depth before after done whole part user (Depth d) = refl
-drawn-flag depth before after done whole part user Other = refl
+drawn-flag depth before after done whole part user _ = refl
 
 -- the acts are drawn as they are by themselves
 drawn-later : {Op : Type 0} → (depth : ℕ) (before after done rest : List (UserAct Op))
@@ -194,11 +190,7 @@ first-flag depth before after done whole within user (Draw op) =
       | inl less ↦ omega arith
       | inr more ↦ absurd (omega (arith, old g more))
     ]
-first-flag depth before after done whole within user Point = refl
-first-flag depth before after done whole within user (Undo who) = refl
-first-flag depth before after done whole within user (Redo who) = refl
-first-flag depth before after done whole within user (Depth d) = refl
-first-flag depth before after done whole within user Other = refl
+first-flag depth before after done whole within user _ = refl
 
 drawn-first : {Op : Type 0} → (depth : ℕ) (before after done rest : List (UserAct Op))
     → AreLater depth before after → before ≡ done ++ rest

@@ -1,7 +1,6 @@
 -- The least rectangle around dabs, one after the other.
 use Rattle.std.proofs.Common.{◌≡◌, ℕ, ◌+◌, ◌<◌, List, [], ◌∷◌, ◌++◌, length, get_or, take, map}
-use Rattle.std.proofs.Common.{fold}
-use Rattle.std.proofs.Common.{Option, Some, None, ap, sym, ◌∙◌, refl}
+use Rattle.std.proofs.Common.{fold, Option, Some, None, ap, sym, ◌∙◌, refl}
 use Rattle.std.proofs.lemmas.Option.{none-some, same_Some}
 use Rattle.std.specs.Option.{option_map_or}
 use Rattle.std.proofs.lemmas.List.{take_more, map-append}

@@ -289,19 +289,6 @@ moved_keeps width height sx sy w h tx ty old x y narrow low out_from out_to on =
 pub drawn_keeps : (width height : ℕ) (d : Draw) (old : ℤ → ℤ → Channels) (x y : ℤ)
     → width ≤ 4096 → height ≤ 4096 → is_in_foot (foot d) x y ≡ false
     → drawn width height d old x y ≡ old x y
-drawn_keeps width height (op.CanvasResize top right bottom left) old x y narrow low out = absurd
-    (false≢true (sym out))
-drawn_keeps width height (op.LayerCreate id parent group title) old x y narrow low out = absurd
-    (false≢true (sym out))
-drawn_keeps width height (op.LayerAttr id opacity mode hidden) old x y narrow low out = absurd
-    (false≢true (sym out))
-drawn_keeps width height (op.LayerTitle id title) old x y narrow low out = absurd
-    (false≢true (sym out))
-drawn_keeps width height (op.LayerMove id parent above) old x y narrow low out = absurd
-    (false≢true (sym out))
-drawn_keeps width height (op.LayerDelete id) old x y narrow low out = absurd (false≢true (sym out))
-drawn_keeps width height (op.Background color) old x y narrow low out = absurd
-    (false≢true (sym out))
 drawn_keeps width height (op.PutImage layer mode left top w h colors) old x y narrow low out =
     on_canvas_keeps (canvas_rect width height) x y _ (old x y) (λ on.
     imaged_keeps mode (pos left) (pos top) w h colors x y (old x y)
@@ -328,6 +315,7 @@ drawn_keeps width height (op.MoveRect layer sx sy w h tx ty) old x y narrow low 
     let both = or_parts (is_in (on_greatest (rect_at (pos sx) (pos sy) w h)) x y)
     (is_in (on_greatest (rect_at tx ty w h)) x y) out in
     moved_keeps width height sx sy w h tx ty old x y narrow low both.0 both.1 on)
+drawn_keeps width height _ old x y narrow low out = absurd (false≢true (sym out))
 
 -- MoveRect goes by the old pixel at the place and those of its source
 moved_same : (width height sx sy w h : ℕ) (tx ty : ℤ) (old other : ℤ → ℤ → Channels) (x y : ℤ)

@@ -23,20 +23,9 @@ IsNoMove d = (layer sx sy w h : ℕ) (tx ty : ℤ) → d ≡ op.MoveRect layer s
 -- a command other than MoveRect goes by the old pixel at the place alone
 pub drawn_other : (width height : ℕ) (d : Draw) (old : ℤ → ℤ → Channels) (x y : ℤ) → IsNoMove d
     → drawn width height d old x y ≡ pixel_drawn width height d x y (old x y)
-drawn_other width height (op.CanvasResize top right bottom left) old x y other = refl
-drawn_other width height (op.LayerCreate id parent group title) old x y other = refl
-drawn_other width height (op.LayerAttr id opacity mode hidden) old x y other = refl
-drawn_other width height (op.LayerTitle id title) old x y other = refl
-drawn_other width height (op.LayerMove id parent above) old x y other = refl
-drawn_other width height (op.LayerDelete id) old x y other = refl
-drawn_other width height (op.PutImage layer mode left top w h colors) old x y other = refl
-drawn_other width height (op.FillRect layer mode left top w h color) old x y other = refl
-drawn_other width height (op.PutTile layer col row repeat content) old x y other = refl
-drawn_other width height (op.Background color) old x y other = refl
-drawn_other width height (op.DabsRound layer left top r g b mode dabs) old x y other = refl
-drawn_other width height (op.DabsSquare layer left top r g b mode dabs) old x y other = refl
 drawn_other width height (op.MoveRect layer sx sy w h tx ty) old x y other = absurd
     (other layer sx sy w h tx ty refl)
+drawn_other width height _ old x y other = refl
 
 -- canvases that are made with the same pixel at each place are equal
 abbrev pub SameLaw : Type 0

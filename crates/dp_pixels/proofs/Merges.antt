@@ -1,7 +1,6 @@
 -- Colours that are blended with a row, a piece at a time.
-use Rattle.std.proofs.Common.{◌≡◌, ℕ, ◌+◌, ◌-◌, ◌<◌, ◌≤◌, List, length, get_or}
-use Rattle.std.proofs.Common.{cond, Bool, true, false, ◌&&◌, leb, ltb, sym, ◌∙◌, ap}
-use Rattle.std.proofs.Common.{arith, ⊎_elim}
+use Rattle.std.proofs.Common.{◌≡◌, ℕ, ◌+◌, ◌-◌, ◌<◌, ◌≤◌, List, length, get_or, cond, Bool, true}
+use Rattle.std.proofs.Common.{false, ◌&&◌, leb, ltb, sym, ◌∙◌, ap, arith, ⊎_elim}
 use Rattle.std.proofs.lemmas.Bool.{cases_lt, cond-false}
 use Rattle.std.proofs.lemmas.Bool.Decides.{nat_tests}
 use Rattle.dp_blend.specs.Color.{Channels, fade, of_argb, mul}

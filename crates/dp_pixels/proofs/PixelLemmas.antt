@@ -1,7 +1,6 @@
 -- Commands make pixels of pixels.
 use Rattle.std.proofs.Common.{◌≡◌, ℕ, zero, suc, ◌*◌, ◌/◌, ◌<◌, ◌≤◌, List, [], ◌∷◌, Bool, true}
-use Rattle.std.proofs.Common.{false, cond, length, Option, Some, None, refl, sym}
-use Rattle.std.proofs.Common.{subst, arith}
+use Rattle.std.proofs.Common.{false, cond, length, Option, Some, None, refl, sym, subst, arith}
 use Rattle.std.specs.Prelude.{◌^◌, ◌%◌, nat_le, ◌&&◌, ℤ, pos, ◌-ℤ◌, slice_get, unsigned_abs, IsTrue}
 use Rattle.std.specs.List.{All, enumerate_from}
 use Rattle.std.specs.Option.{option_map_or}
@@ -212,20 +211,6 @@ module _ (blends : Blends) (fades : Fades) where
       → FitsColors d → IsPixel (old x y)
       → ((v z : ℤ) → IsTrue (is_in (canvas_rect width height) v z) → IsPixel (old v z))
       → IsPixel (drawn width height d old x y)
-  drawn-IsPixel width height (op.CanvasResize top right bottom left) old x y fits here all = stays
-      width height x y (old x y) here
-  drawn-IsPixel width height (op.LayerCreate id parent group title) old x y fits here all = stays
-      width height x y (old x y) here
-  drawn-IsPixel width height (op.LayerAttr id opacity mode hidden) old x y fits here all = stays
-      width height x y (old x y) here
-  drawn-IsPixel width height (op.LayerTitle id title) old x y fits here all = stays width height x y
-      (old x y) here
-  drawn-IsPixel width height (op.LayerMove id parent above) old x y fits here all = stays width
-      height x y (old x y) here
-  drawn-IsPixel width height (op.LayerDelete id) old x y fits here all = stays width height x y
-      (old x y) here
-  drawn-IsPixel width height (op.Background color) old x y fits here all = stays width height x y
-      (old x y) here
   drawn-IsPixel width height (op.PutImage layer mode left top w h colors) old x y fits here all =
       on_canvas width height x y _ (old x y) (imaged-IsPixel mode (pos left) (pos top) w h colors x
       y (old x y) fits here) here
@@ -244,3 +229,4 @@ module _ (blends : Blends) (fades : Fades) where
   drawn-IsPixel width height (op.MoveRect layer sx sy w h tx ty) old x y fits here all =
       on_canvas width height x y _ (old x y) (moved-IsPixel width height sx sy w h tx ty old x y
       here all) here
+  drawn-IsPixel width height _ old x y fits here all = stays width height x y (old x y) here

@@ -10,6 +10,7 @@ use Rattle.std.proofs.lemmas.Bool.{cases_Bool, cond-true, cond-false, and_parts,
 use Rattle.std.proofs.lemmas.Bool.{lt-ltb, false≢true, leb-true, leb-false, ltb-true, ltb-false}
 use Rattle.std.proofs.Math.Bool.{and-false}
 use Rattle.std.proofs.Math.Nat.{mul-add, mul_comm}
+use Rattle.dp_pixels.proofs.SpanLemmas.{same_test}
 use Rattle.dp_pixels.specs.declared.rect.Rect.{Rect}
 use Rattle.dp_pixels.specs.Rectangles.{rect_at, share_place}
 use Rattle.dp_pixels.specs.Feet.{on_greatest, on_side, squares_of, squares_shared, stretches}
@@ -48,18 +49,12 @@ counted p low high test (suc n) a s =
 abbrev across : ℤ → ℤ → ℕ → Bool
 across a b col = int_lt (int_max (pos (col * 64)) a) (int_min (pos (col * 64) +ℤ pos 64) b)
 
--- two tests that hold together
-same_tests : (t u : Bool) → (t ≡ true → u ≡ true) → (u ≡ true → t ≡ true) → t ≡ u
-same_tests true u f g = sym (f refl)
-same_tests false true f g = g refl
-same_tests false false f g = refl
-
 across_is : (a b col : ℕ) → a < b → across (pos a) (pos b) col
     ≡ (leb (a / 64) col && ltb col ((b + 63) / 64))
 across_is a b col some =
     let m = int_max (pos (col * 64)) (pos a) in
     let n = int_min (pos (col * 64) +ℤ pos 64) (pos b) in
-    same_tests (int_lt m n) (leb (a / 64) col && ltb col ((b + 63) / 64))
+    same_test (int_lt m n) (leb (a / 64) col && ltb col ((b + 63) / 64))
     (λ is.
     let order : m <ℤ n = less m n is in
     let low : a / 64 ≤ col = omega (

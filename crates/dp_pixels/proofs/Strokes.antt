@@ -1,6 +1,5 @@
 -- The dabs of a message, one after the other.
-use Rattle.std.proofs.Common.{◌≡◌, ℕ, ◌+◌, ◌*◌, ◌^◌, ◌<◌, ◌≤◌, List, [], ◌∷◌, ◌++◌, length}
-use Rattle.std.proofs.Common.{get_or}
+use Rattle.std.proofs.Common.{◌≡◌, ℕ, ◌+◌, ◌*◌, ◌^◌, ◌<◌, ◌≤◌, List, [], ◌∷◌, ◌++◌, length, get_or}
 use Rattle.std.proofs.Common.{take, map, fold, cond, Bool, true, false, refl, arith, ap, ◌∙◌, sym}
 use Rattle.std.specs.Prelude.{ℤ, pos, ◌+ℤ◌, unsigned_abs}
 use Rattle.std.specs.List.{enumerate_from, list_any}
@@ -74,7 +73,7 @@ pub record IsLast (left top : ℤ) (dabs : List Dab) (k : ℕ) (last : Place) : 
   pub near : IsPlaceNear (2 ^ 32 + 128 * k) last
 
 -- the dab after the last one is the last of one dab more
-pub last_more : (left top : ℤ) (dabs : List Dab) (k : ℕ) (last : Place) (placed : PlacedDab)
+last_more : (left top : ℤ) (dabs : List Dab) (k : ℕ) (last : Place) (placed : PlacedDab)
     → k < length dabs
     → placed ≡ placed_after last (get_or dabs k no_dab)
     → unsigned_abs placed.at.x ≤ unsigned_abs last.x
@@ -96,7 +95,7 @@ last_more left top dabs k last placed within is near_x near_y before =
     }
 
 -- and the next in the list
-pub placed_is : (left top : ℤ) (dabs : List Dab) (k : ℕ) (last : Place) (placed d : PlacedDab)
+placed_is : (left top : ℤ) (dabs : List Dab) (k : ℕ) (last : Place) (placed d : PlacedDab)
     → k < length dabs
     → placed ≡ placed_after last (get_or dabs k no_dab) → IsLast left top dabs k last
     → get_or (placed_dabs left top dabs) k d ≡ placed

@@ -1,7 +1,6 @@
 -- Which closings of a log were refused, and why.
-use Rattle.std.proofs.Common.{◌≡◌, ◌⊎◌, ℕ, true, List, [], ◌∷◌, ◌++◌, length, take}
-use Rattle.std.proofs.Common.{None, Some, Ok, refl, sym, ap, subst, ◌∙◌, inl, inr}
-use Rattle.std.proofs.Common.{append-nil, append_assoc}
+use Rattle.std.proofs.Common.{◌≡◌, ◌⊎◌, ℕ, true, List, [], ◌∷◌, ◌++◌, length, take, None, Some, Ok}
+use Rattle.std.proofs.Common.{refl, sym, ap, subst, ◌∙◌, inl, inr, append-nil, append_assoc}
 use Rattle.std.proofs.Math.Seq.{take-append_seam}
 use Rattle.dp_io.specs.Faults.{Rose}
 use Rattle.dp_hall.specs.Logs.{left_by}
@@ -17,9 +16,8 @@ use Rattle.dp_epochs.specs.Past.{Past, quieted, shut_with, state_of, answer_to}
 use Rattle.dp_session_laws.specs.Logs.{ReplyOrMemory, LogEntry, IsSessionLog}
 use Rattle.dp_session_laws.specs.Journals.{is_kept, kept_events}
 use Rattle.dp_session_laws.specs.Closings.{shut_by_outcome, refused_closes, IsShutFor}
-use Rattle.dp_session_laws.proofs.JournalLemmas.{own-kept, log-adds}
-use Rattle.dp_session_laws.proofs.JournalLemmas.{broken-step, broken-log, Sound, Same, First}
-use Rattle.dp_session_laws.proofs.JournalLemmas.{sound-step}
+use Rattle.dp_session_laws.proofs.JournalLemmas.{own-kept, log-adds, broken-step, broken-log, Sound}
+use Rattle.dp_session_laws.proofs.JournalLemmas.{Same, First, sound-step}
 use Rattle.dp_session_laws.proofs.Steps.{Came, WasKept, WasEnded, WasFault, RanOut, step-came}
 use Rattle.dp_session_laws.proofs.Steps.{HasRefused}
 

@@ -6,9 +6,7 @@ use Rattle.dp_hall.specs.Names.{IsIn, AreDistinct}
 use Rattle.dp_epochs.specs.declared.connection.Ending.TheVariants as ending
 use Rattle.dp_epochs.specs.declared.connection.Connection.{Connection}
 use Rattle.dp_epochs.specs.declared.effect.Effect.{Effect}
-use Rattle.dp_epochs.specs.declared.effect.Effect.TheVariants.{Nothing, TakesUp, Placed, Filtered}
-use Rattle.dp_epochs.specs.declared.effect.Effect.TheVariants.{Joined, Left, Began, Added, Dropped}
-use Rattle.dp_epochs.specs.declared.effect.Effect.TheVariants.{Reopened}
+use Rattle.dp_epochs.specs.declared.effect.Effect.TheVariants.{Nothing, TakesUp, Joined, Left}
 use Rattle.dp_epochs.specs.declared.event.Event.{Event}
 use Rattle.dp_epochs.specs.declared.event.Event.TheVariants as event
 use Rattle.dp_epochs.specs.declared.event.Reply.{Reply}
@@ -61,16 +59,11 @@ effect-gives : (s : State) (e : Event) (effect : Effect) → IsEffect s e effect
 effect-gives s e (Nothing answer) cause = inl (still-gives s e answer cause, refl)
 effect-gives s e (TakesUp conn c) cause =
     inl (refl, length-set s.connections (conn - 1) (record c { acknowledged = epoch_of s }))
-effect-gives s e (Placed conn c) cause = inl (refl, refl)
-effect-gives s e (Filtered conn c) cause = inl (refl, refl)
 effect-gives s e (Joined user next) cause =
     inr (refl, omega (arith, length-append s.connections (new_connection s user ∷ [])))
 effect-gives s e (Left conn c next) cause =
     inl (refl, length-set s.connections (conn - 1) (record c { ending = ending.Left (here s) }))
-effect-gives s e (Began conn c) cause = inl (refl, refl)
-effect-gives s e (Added conn c) cause = inl (refl, refl)
-effect-gives s e (Dropped conn c) cause = inl (refl, refl)
-effect-gives s e (Reopened conn c) cause = inl (refl, refl)
+effect-gives s e _ cause = inl (refl, refl)
 
 event-gives : EpochLaws → (s : State) (e : Event)
     → Gives (length s.connections) (given_by (Ok (acted s e).reply))

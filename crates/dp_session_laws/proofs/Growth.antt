@@ -1,19 +1,17 @@
 -- The state of a session grows by each step of a log, and a feed stays one.
-use Rattle.std.proofs.Common.{◌≡◌, ◌⊎◌, ℕ, ◌-◌, ◌≤◌, Bool, true, false, not}
-use Rattle.std.proofs.Common.{if◌then◌else◌, List, [], ◌∷◌, ◌++◌, length, All, Option, None, Some}
-use Rattle.std.proofs.Common.{Ok, Err}
-use Rattle.std.proofs.Common.{refl, sym, ap, subst, ◌∙◌, ⊎_elim, inl, inr, arith, append_assoc}
-use Rattle.std.proofs.Common.{append-nil, length-append}
+use Rattle.std.proofs.Common.{◌≡◌, ◌⊎◌, ℕ, ◌-◌, ◌≤◌, Bool, true, false, not, List, [], ◌∷◌, ◌++◌}
+use Rattle.std.proofs.Common.{length, All, Option, None, Some, Ok, Err, refl, sym, ap, subst, ◌∙◌}
+use Rattle.std.proofs.Common.{⊎_elim, inl, inr, arith, append_assoc, append-nil, length-append}
 use Rattle.std.specs.Prelude.{slice_set, slice_index_or, MatchBool}
 use Rattle.std.specs.Option.{option_map_or}
-use Rattle.std.proofs.lemmas.Bool.{cases_eq, cases_Bool}
+use Rattle.std.proofs.lemmas.Bool.{cases_eq}
 use Rattle.std.proofs.lemmas.List.Elements.{All-weaker, All-push}
 use mathlib.Core.List.{IsPrefix}
 use Rattle.dp_lists.specs.Numbered.{numbered}
 use Rattle.dp_lists.proofs.Numbered.{number-found, numbered-other, numbered-same, numbered-old}
 use Rattle.dp_hall.specs.Logs.{left_by}
 use Rattle.dp_messages.specs.declared.message.Entry.{Entry}
-use Rattle.dp_epochs.specs.Connections.{is_open, is_ended}
+use Rattle.dp_epochs.specs.Connections.{is_ended}
 use Rattle.dp_epochs.specs.declared.connection.Place.{Place}
 use Rattle.dp_epochs.specs.declared.connection.Ending.{Ending}
 use Rattle.dp_epochs.specs.declared.connection.Ending.TheVariants as ending
@@ -26,9 +24,8 @@ use Rattle.dp_epochs.specs.declared.event.Reply.{Reply}
 use Rattle.dp_epochs.specs.declared.event.Reply.TheVariants.{Ended}
 use Rattle.dp_epochs.specs.declared.event.ShutAt.{ShutAt}
 use Rattle.dp_epochs.specs.Rows.{has_room}
-use Rattle.dp_epochs.specs.State.{State, epoch_of, here, history_of, connection_of, open_connection}
-use Rattle.dp_epochs.specs.State.{where_open, with_connection, new_connection, noted}
-use Rattle.dp_epochs.specs.State.{after_event}
+use Rattle.dp_epochs.specs.State.{State, epoch_of, here, history_of, open_connection}
+use Rattle.dp_epochs.specs.State.{with_connection, new_connection, noted, after_event}
 use Rattle.dp_epochs.specs.Effects.{made, connections_after, IsEffect, EventsHaveEffects}
 use Rattle.dp_epochs.specs.Past.{Past, Step, Serves, Accepts, FailsFirst, Refuses, kept, refused}
 use Rattle.dp_epochs.specs.Past.{quieted, state_of, state_after}
@@ -117,9 +114,7 @@ ends-then s t u ending.Running (ending.Left place) c grows more p q =
     subst (EndsLater s u ending.Running) (sym q) (p.0, omega (arith, p.1, more))
 ends-then s t u ending.Running ending.Shut c grows more p q =
     subst (EndsLater s u ending.Running) (sym q) tt
-ends-then s t u (ending.Left place) b c grows more p q =
-    subst (λ e. EndsLater t u e c) p q
-ends-then s t u ending.Shut b c grows more p q = subst (λ e. EndsLater t u e c) p q
+ends-then s t u _ b c grows more p q = subst (λ e. EndsLater t u e c) p q
 
 pub grows-then : (s t u : State) → GrowsInto s t → GrowsInto t u → GrowsInto s u
 grows-then s t u p q = record {

@@ -1,16 +1,13 @@
 -- The journal has the events of a log that are kept.
 use Rattle.std.proofs.Common.{◌≡◌, ◌⊎◌, ℕ, Bool, true, false, if◌then◌else◌, List, [], ◌∷◌, ◌++◌}
-use Rattle.std.proofs.Common.{Option, None, Some, Ok, Err, refl, sym, ap, subst, ◌∙◌, inl}
-use Rattle.std.proofs.Common.{inr}
+use Rattle.std.proofs.Common.{Option, None, Some, Ok, Err, refl, sym, ap, subst, ◌∙◌, inl, inr}
 use Rattle.std.proofs.Common.{append-nil, append_assoc}
 use Rattle.std.specs.Prelude.{MatchBool}
 use Rattle.dp_io.specs.Faults.{Rose}
 use Rattle.dp_hall.specs.Logs.{left_by}
 use Rattle.dp_hall.specs.Names.{IsIn}
 use Rattle.dp_epochs.specs.declared.effect.Effect.{Effect}
-use Rattle.dp_epochs.specs.declared.effect.Effect.TheVariants.{Nothing, TakesUp, Placed, Filtered}
-use Rattle.dp_epochs.specs.declared.effect.Effect.TheVariants.{Joined, Left, Began, Added, Dropped}
-use Rattle.dp_epochs.specs.declared.effect.Effect.TheVariants.{Reopened}
+use Rattle.dp_epochs.specs.declared.effect.Effect.TheVariants.{Nothing}
 use Rattle.dp_epochs.specs.declared.event.Event.{Event}
 use Rattle.dp_epochs.specs.declared.event.Event.TheVariants as event
 use Rattle.dp_epochs.specs.declared.event.Reply.{Reply}
@@ -28,26 +25,13 @@ still-kept : (s : State) (e : Event) (answer : Reply) → IsStill s e answer
 still-kept s e reply.Ignored still = refl
 still-kept s e reply.NameRefused still = refl
 still-kept s e reply.Full still = refl
-still-kept s e reply.Ended still = absurd still
-still-kept s e (reply.StoreFault count) still = absurd still
-still-kept s e (reply.Opened conn user epoch at) still = absurd still
-still-kept s e (reply.Placed epoch at) still = absurd still
-still-kept s e (reply.Filtered epoch at) still = absurd still
-still-kept s e reply.Noted still = absurd still
+still-kept s e _ still = absurd still
 
 -- the own answer to an event is none of those
 effect-kept : (s : State) (e : Event) (effect : Effect) → IsEffect s e effect
     → is_kept (Ok (answer_of s effect)) ≡ true
 effect-kept s e (Nothing answer) cause = still-kept s e answer cause
-effect-kept s e (TakesUp conn c) cause = refl
-effect-kept s e (Placed conn c) cause = refl
-effect-kept s e (Filtered conn c) cause = refl
-effect-kept s e (Joined user next) cause = refl
-effect-kept s e (Left conn c next) cause = refl
-effect-kept s e (Began conn c) cause = refl
-effect-kept s e (Added conn c) cause = refl
-effect-kept s e (Dropped conn c) cause = refl
-effect-kept s e (Reopened conn c) cause = refl
+effect-kept s e _ cause = refl
 
 pub own-kept : EventsHaveEffects → (s : State) (e : Event) → is_kept (Ok (acted s e).reply) ≡ true
 own-kept effects s e =

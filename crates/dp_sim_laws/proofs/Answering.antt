@@ -1,11 +1,11 @@
 -- A user's own answers in a history, and the sends that they answer.
 use Rattle.std.proofs.Common.{◌≡◌, ◌⊎◌, ℕ, zero, suc, ◌+◌, ◌<◌, ◌≤◌, ◌==◌, Bool, true, false, ◌&&◌}
-use Rattle.std.proofs.Common.{if◌then◌else◌}
-use Rattle.std.proofs.Common.{List, [], ◌∷◌, ◌++◌, length, take, drop, Some}
-use Rattle.std.proofs.Common.{refl, sym, ap, ◌∙◌, arith, append_assoc}
+use Rattle.std.proofs.Common.{if◌then◌else◌, List, [], ◌∷◌, ◌++◌, length, take, drop, Some, refl}
+use Rattle.std.proofs.Common.{sym, ap, ◌∙◌, arith, append_assoc}
 use Rattle.std.specs.Prelude.{nat_lt}
 use Rattle.std.specs.List.{slice_get, AllByRecursion}
 use Rattle.std.proofs.lemmas.Bool.{lt-ltb, le-ltb, eq-eqb, ne_eqb}
+use Rattle.std.proofs.Math.Bool.{and-false}
 use Rattle.dp_messages.specs.declared.message.Msg.{Msg}
 use Rattle.dp_messages.specs.declared.message.Entry.{Entry}
 use Rattle.dp_messages.specs.Properties.{is_filtered}
@@ -135,11 +135,11 @@ none-other user x xs ne h = (ap (λ b. b && may_answer x.msg) (ne_eqb x.user use
 -- nor is one that can't answer
 pub none-mute : (user : ℕ) (x : Entry) (xs : List Entry) → may_answer x.msg ≡ false
     → NoAnswers user xs → NoAnswers user (x ∷ xs)
-none-mute user x xs mute h = (ap (λ b. x.user == user && b) mute ∙ never (x.user == user), h)
-  where
-    never : (b : Bool) → (b && false) ≡ false
-    never true = refl
-    never false = refl
+none-mute user x xs mute h = (
+  ap (λ b. x.user == user && b) mute
+      ∙ and-false (x.user == user),
+  h,
+)
 
 pub none-append : (user : ℕ) (xs ys : List Entry) → NoAnswers user xs → NoAnswers user ys
     → NoAnswers user (xs ++ ys)

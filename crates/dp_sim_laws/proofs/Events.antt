@@ -1,14 +1,14 @@
 -- What one event does to the users and their answers: open connections are of users that differ,
 -- and an event of one connection places no answers of others.
 use Rattle.std.proofs.Common.{◌≡◌, ◌⊎◌, ℕ, zero, suc, ◌+◌, ◌-◌, ◌<◌, ◌≤◌, ◌==◌, Bool, true, false}
-use Rattle.std.proofs.Common.{not, ◌&&◌, ◌||◌, nat_le, cond, if◌then◌else◌}
-use Rattle.std.proofs.Common.{List, [], ◌∷◌, ◌++◌, length, Option, None, Some, is_some}
-use Rattle.std.proofs.Common.{refl, sym, ap, subst, ◌∙◌, ⊎_elim, inl, inr, arith, append-nil}
-use Rattle.std.proofs.Common.{append_assoc, length-append}
+use Rattle.std.proofs.Common.{not, ◌&&◌, ◌||◌, nat_le, cond, if◌then◌else◌, List, [], ◌∷◌, ◌++◌}
+use Rattle.std.proofs.Common.{length, Option, None, Some, is_some, refl, sym, ap, subst, ◌∙◌}
+use Rattle.std.proofs.Common.{⊎_elim, inl, inr, arith, append-nil, append_assoc, length-append}
 use Rattle.std.specs.Prelude.{slice_set}
 use Rattle.std.specs.List.{find, list_any, range_with_len, slice_get}
 use Rattle.std.proofs.lemmas.Bool.{cases_eq, cases_Bool, cond_both, eq-eqb, or_parts}
 use Rattle.std.proofs.lemmas.Bool.{and_parts, le-leb, not-true, false≢true}
+use Rattle.std.proofs.Math.Bool.{and-false, or-false}
 use Rattle.dp_client.specs.Client.{may_answer}
 use Rattle.dp_client.specs.Taking.{EntriesAreTaken}
 use Rattle.dp_messages.specs.Properties.{carried_in}
@@ -303,15 +303,6 @@ may-permitted h user (msg.Meta meta.Leave) may = cc
 may-permitted h user (msg.Meta (meta.Filtered kind)) may = cc
 may-permitted h user m may = refl
 
--- the last of a test of two parts fails
-pub and_no : (a : Bool) → (a && false) ≡ false
-and_no true = refl
-and_no false = refl
-
-or_no : (a : Bool) → (a || false) ≡ a
-or_no true = refl
-or_no false = refl
-
 -- ---- what a message is, by what becomes of it
 
 -- a send has a kind from 32 on
@@ -344,7 +335,7 @@ IsOf s c m other = Unit {0}
 ignored-ack : (a b : Bool) → (a && not b) ≡ false → (b || a) ≡ b
 ignored-ack true true is = refl
 ignored-ack true false is = cc
-ignored-ack false b is = or_no b
+ignored-ack false b is = or-false b
 
 module _ (s : State) (conn : ℕ) (c : Connection) where
   asked-is : (m : Msg) (d : Decision) → is_ack (epoch_of s) m ≡ false → IsOf s c m d
@@ -352,7 +343,7 @@ module _ (s : State) (conn : ℕ) (c : Connection) where
   asked-is m d ack h =
       cond_both (has_acknowledged s c) d decision.Ignore (IsOf s c m) (λ ready. h)
       (λ late. (
-        ap (λ a. has_acknowledged s c || a) ack ∙ or_no (has_acknowledged s c),
+        ap (λ a. has_acknowledged s c || a) ack ∙ or-false (has_acknowledged s c),
         ap (λ b. b && is_send m) late,
       ))
 
@@ -365,15 +356,15 @@ module _ (s : State) (conn : ℕ) (c : Connection) where
 
   pub decided-is : (m : Msg) → IsOf s c m (decided s conn c m)
   decided-is (msg.Control (control.Ping pong)) =
-      (or_no (has_acknowledged s c), and_no (has_acknowledged s c))
+      (or-false (has_acknowledged s c), and-false (has_acknowledged s c))
   decided-is (msg.Control (control.Disconnect reason)) =
-      (or_no (has_acknowledged s c), and_no (has_acknowledged s c))
+      (or-false (has_acknowledged s c), and-false (has_acknowledged s c))
   decided-is (msg.Control (control.Ack epoch)) =
       let b = has_acknowledged s c in
       cond_both (epoch == epoch_of s && not b) decision.Acknowledge decision.Ignore
       (IsOf s c (msg.Control (control.Ack epoch)))
       (λ yes. (and_parts (epoch == epoch_of s) (not b) yes).0)
-      (λ no. (ignored-ack (epoch == epoch_of s) b no, and_no b))
+      (λ no. (ignored-ack (epoch == epoch_of s) b no, and-false b))
   decided-is (msg.Control control.ResetBegin) =
       let m = msg.Control control.ResetBegin in
       asked-is m (heard s conn c m) refl
@@ -441,7 +432,7 @@ module _ (s : State) (conn : ℕ) (c : Connection) (m : Msg)
     no-sends ms none =
         subst (λ ns. Answer ns (sends_of (has_acknowledged s c) m)) (sym none)
         (subst (λ b. Answer [] (if b then m ∷ [] else []))
-        (sym (ap (λ a. has_acknowledged s c && a) send ∙ and_no (has_acknowledged s c))) tt)
+        (sym (ap (λ a. has_acknowledged s c && a) send ∙ and-false (has_acknowledged s c))) tt)
 
     hears-noted : (u : State) → u.ended ≡ s.ended → u.connections ≡ s.connections
         → u.live ≡ s.live ++ [] → Hears s conn c m u

@@ -36,8 +36,7 @@ use Rattle.dp_sim.proofs.Moves.{not-gone}
 use Rattle.dp_sim_laws.specs.OwnSteps.{exchange_of, next_of, steps_of_exchange, own_step, own_steps}
 use Rattle.dp_sim_laws.specs.OwnSteps.{welcome_of, GoesBy}
 use Rattle.dp_sim_laws.specs.Tally.{Tally, no_sends, tally_step, tally_from, tally_of}
-use Rattle.dp_sim_laws.specs.Tally.{exchange_replies}
-use Rattle.dp_sim_laws.specs.Tally.{replies, IsUnended}
+use Rattle.dp_sim_laws.specs.Tally.{exchange_replies, replies, IsUnended}
 use Rattle.dp_lists.specs.Numbered.{numbered}
 use Rattle.dp_lists.proofs.Options.{at_some, if_some}
 use Rattle.dp_lists.proofs.Numbered.{number-found, numbered-other, numbered-same, numbered-either}

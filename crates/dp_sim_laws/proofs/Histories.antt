@@ -32,10 +32,9 @@ use Rattle.dp_epochs.specs.declared.event.Event.{Event}
 use Rattle.dp_epochs.specs.declared.event.Event.TheVariants as event
 use Rattle.dp_epochs.specs.declared.event.ShutAt.{ShutAt}
 use Rattle.dp_epochs.specs.State.{State, Stream, first_state, noted, after_event, after_shut}
-use Rattle.dp_epochs.specs.State.{epoch_of, history_of, entry_of, is_name}
-use Rattle.dp_epochs.specs.State.{user_ids, is_present, kept_by}
-use Rattle.dp_epochs.specs.State.{next_owner, left, stream_without, sent_commands, part_bytes}
-use Rattle.dp_epochs.specs.State.{reset_byte_limit, with_part, present_users}
+use Rattle.dp_epochs.specs.State.{epoch_of, history_of, entry_of, is_name, user_ids, is_present}
+use Rattle.dp_epochs.specs.State.{kept_by, next_owner, left, stream_without, sent_commands}
+use Rattle.dp_epochs.specs.State.{part_bytes, reset_byte_limit, with_part, present_users}
 use Rattle.dp_epochs.specs.State.{open_connection, with_connection}
 use Rattle.dp_epochs.specs.declared.effect.Effect.{Effect}
 use Rattle.dp_epochs.specs.declared.effect.Effect.TheVariants.{Placed, Filtered, Joined, Left}
@@ -71,11 +70,9 @@ draw-small m = omega arith
 kind-small : (m : Msg) → HasSpelling m → kind_of m < 2 ^ 8
 kind-small (msg.Control m) spelled = control-small m
 kind-small (msg.Meta m) spelled = meta-small m
-kind-small (msg.Part command) spelled = omega arith
-kind-small msg.Point spelled = omega arith
-kind-small (msg.Undo target redo) spelled = omega arith
 kind-small (msg.Draw command) spelled = draw-small command
 kind-small (msg.Opaque kind body) spelled = spelled.1
+kind-small _ spelled = omega arith
 
 -- a user's id
 abbrev IsUser : ℕ → Type 0

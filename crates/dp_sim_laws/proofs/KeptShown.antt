@@ -22,7 +22,7 @@ use Rattle.dp_epochs.specs.Past.{Past, state_of, kept, refused, sure_step}
 use Rattle.dp_epochs.specs.Laws.{Continues, ShutBefore, shut_by}
 use Rattle.dp_schedule.specs.declared.action.Instruction.TheVariants.{Reset}
 use Rattle.dp_schedule.specs.declared.action.Action.{Action}
-use Rattle.dp_schedule.specs.declared.action.Action.TheVariants.{Join, Act, Show}
+use Rattle.dp_schedule.specs.declared.action.Action.TheVariants.{Act}
 use Rattle.dp_snap.specs.Snapshot.{snapshot}
 use Rattle.dp_sim.specs.Exchanges.{Participant}
 use Rattle.dp_sim.specs.World.{World, participant_of, after, first_world, world_after}
@@ -32,7 +32,7 @@ use Rattle.dp_lists.proofs.Options.{option_both, at_some, if_some}
 use Rattle.dp_keep_laws.proofs.Kept.{OpeningsShowTheSame}
 use Rattle.dp_sim_laws.specs.Spelled.{SaysSpelled}
 use Rattle.dp_sim_laws.specs.Resets.{IsTakenUp, ShowsOn}
-use Rattle.dp_sim_laws.proofs.Walks.{MayAct, action-keeps}
+use Rattle.dp_sim_laws.proofs.Walks.{action-keeps, all-may}
 use Rattle.dp_sim_laws.proofs.Shown.{Resetting, world-along, opened, drawn, started}
 use Rattle.dp_sim_laws.proofs.Shown.{same-first, same-carried, before-is}
 
@@ -67,12 +67,6 @@ step-begins laws first epoch past e shut may h =
     (laws.histories past.journal past.shut e epoch shut))
     (λ full. subst (Begins first epoch) (sym (laws.on_refused past e))
     (shut-begins first epoch (state_of past) e h))
-
--- any event may come
-all-may : (w : World) (action : Action) → MayAct (λ e. Unit {0}) w action
-all-may w (Join name registered) = tt
-all-may w (Act client instruction) = λ p found. (λ k m less. tt, tt)
-all-may w (Show client kind) = tt
 
 along-begins : Resetting → (first : List Entry) (epoch : ℕ) (w : World) (actions : List Action)
     → IsWorld w → Begins first epoch (state_of w.past)

@@ -1,7 +1,6 @@
 -- In a world whose clients say what has a spelling, all that comes to the session has one.
 use Rattle.std.proofs.Common.{◌≡◌, ℕ, ◌+◌, ◌*◌, ◌^◌, Bool, true, false, ◌<◌, ◌≤◌, ◌==◌}
-use Rattle.std.proofs.Common.{if◌then◌else◌}
-use Rattle.std.proofs.Common.{List, [], ◌∷◌, length, map, fold, Option, None, Some}
+use Rattle.std.proofs.Common.{if◌then◌else◌, List, [], ◌∷◌, length, map, fold, Option, None, Some}
 use Rattle.std.proofs.Common.{sym, subst, ⊎_elim, arith}
 use Rattle.std.specs.Prelude.{All, IfSome}
 use Rattle.std.specs.List.{slice_get}
@@ -9,8 +8,7 @@ use Rattle.std.proofs.lemmas.Bool.{cond_both}
 use Rattle.std.proofs.lemmas.List.Elements.{All-nil, All-cons, All-head, All-tail, All-append}
 use Rattle.std.proofs.lemmas.List.Elements.{All-push, All-map, All-take, All-weaker}
 use Rattle.dp_msg_draw.specs.declared.draw.Draw.{Draw}
-use Rattle.dp_msg_meta.specs.declared.message.Control.TheVariants.{Disconnect, Ack}
-use Rattle.dp_msg_meta.specs.declared.message.Control.TheVariants.{ResetEnd}
+use Rattle.dp_msg_meta.specs.declared.message.Control.TheVariants.{Disconnect, Ack, ResetEnd}
 use Rattle.dp_msg_meta.specs.declared.message.Meta.TheVariants as meta
 use Rattle.dp_messages.specs.declared.message.Msg.{Msg}
 use Rattle.dp_messages.specs.declared.message.Msg.TheVariants as msg

@@ -23,9 +23,8 @@ use Rattle.dp_sim.specs.Moves.{after_move, instruction_move, InstructionsAreMove
 use Rattle.dp_sim.specs.World.{World, participant_of, new_participant, with_joined, joined}
 use Rattle.dp_sim.specs.World.{with_exchange, acted, after, first_world, world_after}
 use Rattle.dp_sim.specs.Report.{along}
-use Rattle.dp_sim_laws.specs.OwnSteps.{exchange_of, steps_of_move, steps_of_exchange}
-use Rattle.dp_sim_laws.specs.OwnSteps.{own_step, own_steps}
-use Rattle.dp_sim_laws.specs.OwnSteps.{welcome_of, GoesBy}
+use Rattle.dp_sim_laws.specs.OwnSteps.{exchange_of, steps_of_move, steps_of_exchange, own_step}
+use Rattle.dp_sim_laws.specs.OwnSteps.{own_steps, welcome_of, GoesBy}
 use Rattle.dp_lists.specs.Numbered.{numbered}
 use Rattle.dp_lists.proofs.Options.{if_some}
 use Rattle.dp_lists.proofs.Numbered.{number-found, numbered-other, numbered-same, numbered-either}

@@ -1,8 +1,7 @@
 -- What a session makes of the messages of a reset: the commands that it has of it so far.
-use Rattle.std.proofs.Common.{◌≡◌, ℕ, ◌+◌, ◌==◌, Bool, true, false, if◌then◌else◌}
-use Rattle.std.proofs.Common.{List, [], ◌∷◌, ◌++◌, Option, None, Some}
-use Rattle.std.proofs.Common.{refl, sym, ap, subst, ◌∙◌, arith, append-nil, append_assoc}
-use Rattle.std.proofs.Common.{length, length-append}
+use Rattle.std.proofs.Common.{◌≡◌, ℕ, ◌+◌, ◌==◌, Bool, true, false, if◌then◌else◌, List, [], ◌∷◌}
+use Rattle.std.proofs.Common.{◌++◌, Option, None, Some, refl, sym, ap, subst, ◌∙◌, arith}
+use Rattle.std.proofs.Common.{append-nil, append_assoc, length, length-append}
 use Rattle.std.proofs.lemmas.Bool.{cond_both, eqb-true, false≢true}
 use Rattle.std.specs.Option.{option_map}
 use Rattle.std.proofs.lemmas.Option.{same_Some}
@@ -27,14 +26,12 @@ use Rattle.dp_epochs.specs.State.{history_of, open_connection, with_connection, 
 use Rattle.dp_epochs.specs.State.{with_command, with_part, sent_commands, stream_without}
 use Rattle.dp_epochs.specs.State.{commands_by, decided, kept_by, place_in, present_users}
 use Rattle.dp_epochs.specs.declared.effect.Effect.{Effect}
-use Rattle.dp_epochs.specs.declared.effect.Effect.TheVariants.{Nothing, TakesUp, Placed}
-use Rattle.dp_epochs.specs.declared.effect.Effect.TheVariants.{Left, Began, Added, Dropped}
-use Rattle.dp_epochs.specs.declared.effect.Effect.TheVariants.{Reopened}
+use Rattle.dp_epochs.specs.declared.effect.Effect.TheVariants.{Nothing, TakesUp, Placed, Left}
+use Rattle.dp_epochs.specs.declared.effect.Effect.TheVariants.{Began, Added, Dropped, Reopened}
 use Rattle.dp_epochs.specs.Effects.{own_message, made, stream_after, answer_of, IsStill}
 use Rattle.dp_epochs.specs.Effects.{IsEffect, begin_message}
 use Rattle.dp_epochs.specs.Rows.{has_room}
-use Rattle.dp_epochs.specs.Past.{Past, state_of, kept, refused, answer_to, sure_step}
-use Rattle.dp_epochs.specs.Past.{sure_answer}
+use Rattle.dp_epochs.specs.Past.{Past, state_of, kept, refused, answer_to, sure_step, sure_answer}
 use Rattle.dp_epochs.specs.Laws.{Continues, ShutBefore, shut_by}
 use Rattle.dp_lists.proofs.Options.{option_both}
 use Rattle.dp_sim.proofs.LawLemmas.{Leading}

@@ -1,8 +1,7 @@
 -- A reset that is taken up opens its epoch with its commands.
-use Rattle.std.proofs.Common.{◌≡◌, ◌⊎◌, ℕ, zero, suc, true, false}
-use Rattle.std.proofs.Common.{if◌then◌else◌, List, [], ◌∷◌, ◌++◌, length, drop, map, fold}
-use Rattle.std.proofs.Common.{Option, None, Some, refl, sym, ap, subst, ◌∙◌, ⊎_elim, inl, inr}
-use Rattle.std.proofs.Common.{append-nil, append_assoc}
+use Rattle.std.proofs.Common.{◌≡◌, ◌⊎◌, ℕ, zero, suc, true, false, if◌then◌else◌, List, [], ◌∷◌}
+use Rattle.std.proofs.Common.{◌++◌, length, drop, map, fold, Option, None, Some, refl, sym, ap}
+use Rattle.std.proofs.Common.{subst, ◌∙◌, ⊎_elim, inl, inr, append-nil, append_assoc}
 use Rattle.std.specs.Option.{option_map_or}
 use Rattle.std.proofs.lemmas.Bool.{cases_eq, eq-eqb, ne_eqb}
 use Rattle.dp_msg_draw.specs.declared.draw.Draw.{Draw}
@@ -37,7 +36,7 @@ use Rattle.dp_lists.proofs.Numbered.{numbered-same}
 use Rattle.dp_sim_laws.specs.OwnSteps.{exchange_of}
 use Rattle.dp_sim_laws.specs.Tally.{said_reply}
 use Rattle.dp_sim_laws.specs.Resets.{client_answer, own_answer, own_answers}
-use Rattle.dp_sim_laws.proofs.Walks.{MayAct, action-keeps, other-stays, own-becomes}
+use Rattle.dp_sim_laws.proofs.Walks.{MayAct, action-keeps, all-may, other-stays, own-becomes}
 use Rattle.dp_sim_laws.proofs.Streams.{Owns, IsNotBy, step-owned, OpenedWith, step-opened}
 use Rattle.dp_sim_laws.proofs.Streams.{Begins, begin-noted, part-noted, end-placed}
 
@@ -272,13 +271,8 @@ module _ (laws : Leading) (moves : InstructionsAreMoves)
   opened-along commands w (action ∷ actions) world h =
       opened-along commands (after w action) actions (stays w action world)
       (action-keeps moves (λ past. OpenedWith epoch place commands (state_of past)) (λ e. Unit {0})
-      laws.before (step-opened laws epoch place commands) w action world.before (may w action) h)
-    where
-      may : (w : World) (action : Action)
-          → MayAct (λ e. Unit {0}) w action
-      may w (Join name registered) = tt
-      may w (Act actor instruction) = λ q there. (λ k d within. tt, tt)
-      may w (Show actor kind) = tt
+      laws.before (step-opened laws epoch place commands) w action world.before
+      (all-may w action) h)
 
   module _ (rest : List Reply) where
     -- If the begin was noted and these parts after it, the parts that are left are noted along the

@@ -4,6 +4,7 @@ use Rattle.std.proofs.Common.{if◌then◌else◌, List, [], ◌∷◌, ◌++◌
 use Rattle.std.proofs.Common.{append_assoc, append-nil, map}
 use Rattle.std.specs.List.{AllByRecursion}
 use Rattle.std.proofs.lemmas.Bool.{eq-eqb, ne_eqb}
+use Rattle.std.proofs.Math.Bool.{and-false, or-true}
 use Rattle.dp_msg_draw.specs.declared.draw.Draw.{Draw}
 use Rattle.dp_msg_meta.specs.declared.message.Control.TheVariants as control
 use Rattle.dp_messages.specs.declared.message.Msg.{Msg}
@@ -11,7 +12,7 @@ use Rattle.dp_messages.specs.declared.message.Msg.TheVariants as msg
 use Rattle.dp_messages.specs.Messages.{kind_of}
 use Rattle.dp_messages.specs.Properties.{is_disconnect}
 use Rattle.dp_snap.specs.Resets.{reset_begin, reset_messages}
-use Rattle.dp_sim_laws.proofs.Events.{and_no, is_ack, is_send, sends_of, IsHigh}
+use Rattle.dp_sim_laws.proofs.Events.{is_ack, is_send, sends_of, IsHigh}
 
 -- the sends among the messages that a session hears while the epoch stays, from a connection that
 -- has taken up the epoch or not
@@ -185,7 +186,7 @@ due-reset epoch ready [] (m ∷ more) h =
     ∙ ap (λ b. (if ready && b then m ∷ [] else []) ++ due epoch (ready || is_ack epoch m) more)
     h.0.send
     ∙ ap (λ b. (if b then m ∷ [] else []) ++ due epoch (ready || is_ack epoch m) more)
-    (and_no ready)
+    (and-false ready)
     ∙ due-reset epoch (ready || is_ack epoch m) [] more h.1
 due-reset epoch ready (m ∷ ms) more h =
     ap (λ xs. if is_disconnect m then [] else sends_of ready m ++ xs)
@@ -219,11 +220,7 @@ due-ack epoch before (x ∷ ms) less h =
 pub hears-ack : (epoch : ℕ) (ready : Bool) (ms : List Msg) → HasNoEnd ms
     → hears_more epoch ready (ms ++ msg.Control (control.Ack epoch) ∷ []) ≡ true
 hears-ack epoch ready [] h =
-    ap (λ b. ready || b) (eq-eqb epoch epoch refl) ∙ or_yes ready
-  where
-    or_yes : (b : Bool) → (b || true) ≡ true
-    or_yes true = refl
-    or_yes false = refl
+    ap (λ b. ready || b) (eq-eqb epoch epoch refl) ∙ or-true ready
 hears-ack epoch ready (x ∷ ms) h =
     hears-first epoch ready x (ms ++ msg.Control (control.Ack epoch) ∷ []) h.0
     ∙ hears-ack epoch (ready || is_ack epoch x) ms h.1

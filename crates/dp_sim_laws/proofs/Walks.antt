@@ -36,6 +36,12 @@ MayAct May w (Act client instruction) =
     (p : Participant) → participant_of w client ≡ Some p → MaySend May p
 MayAct May w (Show client kind) = Unit {0}
 
+-- any event may come
+pub all-may : (w : World) (action : Action) → MayAct (λ e. Unit {0}) w action
+all-may w (Join name registered) = tt
+all-may w (Act client instruction) = λ p found. (λ k m less. tt, tt)
+all-may w (Show client kind) = tt
+
 module _ (moves : InstructionsAreMoves) (P : Past → Type 0) (May : Event → Type 0)
     (before : (past : Past) (e : Event) → ShutBefore past → ShutBefore (sure_step past e))
     (step : (past : Past) (e : Event) → ShutBefore past → May e → P past → P (sure_step past e))

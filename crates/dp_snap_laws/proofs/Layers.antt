@@ -1,9 +1,10 @@
 -- The tiles of the paint rows of a board, put on its rows without pixels, give its rows.
-use Rattle.std.proofs.Common.{◌≡◌, ◌==◌, ℕ, ◌*◌, Bool, true, false, not, cond, List, [], ◌∷◌, ◌++◌}
+use Rattle.std.proofs.Common.{◌≡◌, ◌==◌, ℕ, ◌*◌, true, false, not, cond, List, [], ◌∷◌, ◌++◌}
 use Rattle.std.proofs.Common.{map, length, Option, None, Some, refl, ap, sym, ◌∙◌, subst, eq-eqb}
 use Rattle.std.specs.Prelude.{All, is_some, unwrap_or}
 use Rattle.std.specs.List.{fold, flat_map, IsDistinct}
 use Rattle.std.specs.Option.{ForSome, option_map_or}
+use Rattle.std.proofs.lemmas.Bool.{not-true, not-false}
 use Rattle.std.proofs.lemmas.List.{append_assoc}
 use Rattle.std.proofs.lemmas.List.Elements.{All-nil, All-cons, All-head, All-tail, All-append}
 use Rattle.std.proofs.lemmas.List.Elements.{All-map}
@@ -85,18 +86,7 @@ module _ (board : Board) where
         (map_one (λ r. r.layer.id == layer.id) (with_change layer.id change) same xs
         (holding layer pixels) ys before after
         ∙ ap (λ r. xs ++ r ∷ ys) here)
-    put_one pixels (draws.CanvasResize top right bottom left) is = absurd is
-    put_one pixels (draws.LayerCreate id parent group title) is = absurd is
-    put_one pixels (draws.LayerAttr id opacity mode hidden) is = absurd is
-    put_one pixels (draws.LayerTitle id title) is = absurd is
-    put_one pixels (draws.LayerMove id parent above) is = absurd is
-    put_one pixels (draws.LayerDelete id) is = absurd is
-    put_one pixels (draws.PutImage id mode x y w h colors) is = absurd is
-    put_one pixels (draws.FillRect id mode x y w h color) is = absurd is
-    put_one pixels (draws.Background color) is = absurd is
-    put_one pixels (draws.DabsRound id x y r g b mode dabs) is = absurd is
-    put_one pixels (draws.DabsSquare id x y r g b mode dabs) is = absurd is
-    put_one pixels (draws.MoveRect id sx sy w h tx ty) is = absurd is
+    put_one pixels _ is = absurd is
 
     pub put_each : (ops : List Draw) (pixels : List Channels) → All (IsPutOf layer.id) ops
         → fold draw (with_rows board (xs ++ holding layer pixels ∷ ys)) ops
@@ -132,14 +122,10 @@ module _ (board : Board) where
         (layer_puts board layer)
         ≡ with_rows board (xs ++ record { layer = layer; content = content } ∷ ys)
     fill_row xs layer ys None before after found kind long each =
-        let group : layer.group ≡ true = not_false layer.group (sym kind) in
+        let group : layer.group ≡ true = not-false layer.group (sym kind) in
         rw group refl
-      where
-        not_false : (b : Bool) → not b ≡ false → b ≡ true
-        not_false true h = refl
-        not_false false h = sym h
     fill_row xs layer ys (Some pixels) before after found kind long each =
-        let paints : layer.group ≡ false = not_true layer.group (sym kind) in
+        let paints : layer.group ≡ false = not-true layer.group (sym kind) in
         let own : pixels_of board layer.id ≡ pixels =
         ap (λ (o : Option (List Channels)). unwrap_or o []) found in
         let puts = puts_of board.width board.height layer.id pixels in
@@ -159,10 +145,6 @@ module _ (board : Board) where
         (puts_are board.width board.height layer.id pixels)
         ∙ ap (λ ps. with_rows board (xs ++ holding layer ps ∷ ys))
         (puts_give board.width board.height layer.id pixels (each pixels refl) (long pixels refl))
-      where
-        not_true : (b : Bool) → not b ≡ true → b ≡ false
-        not_true true h = sym h
-        not_true false h = refl
 
     pub fill_all : (prefix rest : List (Row (List Channels))) → board.rows ≡ prefix ++ rest
         → fold draw (with_rows board (prefix ++ map blank_row rest))

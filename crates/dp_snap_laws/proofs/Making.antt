@@ -5,7 +5,7 @@ use Rattle.std.proofs.Common.{refl, ap, sym, ◌∙◌, subst, ◌⊎◌, inr, �
 use Rattle.std.specs.Prelude.{nat_lt}
 use Rattle.std.specs.List.{filter, fold, flat_map}
 use Rattle.std.proofs.lemmas.Bool.{cases_Bool, eqb-true, ne_eqb, and_parts, lt-ltb, or_left}
-use Rattle.std.proofs.lemmas.Bool.{or_right}
+use Rattle.std.proofs.lemmas.Bool.{not-true, or_right}
 use Rattle.std.proofs.lemmas.List.{map-append, append_assoc, append-nil, length-map, length-append}
 use Rattle.std.proofs.lemmas.List.Elements.{All-map}
 use Rattle.std.proofs.lemmas.List.Sums.{fold-append}
@@ -15,8 +15,7 @@ use Rattle.dp_blend.specs.Canvas.{canvas_of}
 use Rattle.dp_msg_draw.specs.Limits.{IsListedMode}
 use Rattle.dp_msg_draw.specs.declared.draw.Draw.TheVariants as draws
 use Rattle.dp_layers.specs.declared.row.LayerRow.{LayerRow}
-use Rattle.dp_layers.specs.Layers.{has_id, has_row, are_within}
-use Rattle.dp_layers.specs.Layers.{is_listed_mode, row_limit}
+use Rattle.dp_layers.specs.Layers.{has_id, has_row, are_within, is_listed_mode, row_limit}
 use Rattle.dp_layers.specs.Rows.{Row, layers_of}
 use Rattle.dp_layers.specs.Changes.{can_create, can_move, can_set_attr, change_row, set_parent}
 use Rattle.dp_layers.specs.Changes.{set_attr, with_layer, rows_changed, placed, inserted_after}
@@ -335,14 +334,10 @@ module _ (board : Board) where
         let one = and_parts (row.opacity == 255) (row.mode == 1) two.0 in
         let opacity = eqb-true row.opacity 255 one.0 in
         let mode = eqb-true row.mode 1 one.1 in
-        let hidden : row.hidden ≡ false = not_true row.hidden two.1 in
+        let hidden : row.hidden ≡ false = not-true row.hidden two.1 in
         ap (λ (n : ℕ). made n 1 false) (sym opacity)
         ∙ ap (λ (n : ℕ). made row.opacity n false) (sym mode)
         ∙ ap (λ (b : Bool). made row.opacity row.mode b) (sym hidden)
-      where
-        not_true : (b : Bool) → not b ≡ true → b ≡ false
-        not_true true h = sym h
-        not_true false h = refl
 
     may_set : can_set_attr (layers_of (bare_rows prefix (row ∷ rest))) row.id row.mode ≡ true
     may_set =

@@ -1,7 +1,6 @@
 -- A snapshot, drawn on the empty board and replayed, gives its board.
-use Rattle.std.proofs.Common.{◌≡◌, ◌≢◌, ◌==◌, ℕ, ◌+◌, ◌≤◌, true, false, List, []}
-use Rattle.std.proofs.Common.{◌++◌, map, Some, refl, ap, sym, ◌∙◌}
-use Rattle.std.proofs.Common.{inl, ⊎_elim, arith, zero-add}
+use Rattle.std.proofs.Common.{◌≡◌, ◌≢◌, ◌==◌, ℕ, ◌+◌, ◌≤◌, true, false, List, [], ◌++◌, map, Some}
+use Rattle.std.proofs.Common.{refl, ap, sym, ◌∙◌, inl, ⊎_elim, arith, zero-add}
 use Rattle.std.specs.Prelude.{pos, ◌+ℤ◌}
 use Rattle.std.specs.List.{fold, flat_map}
 use Rattle.std.proofs.lemmas.Bool.{cases_Bool, eqb-true, eqb-false, le-leb}

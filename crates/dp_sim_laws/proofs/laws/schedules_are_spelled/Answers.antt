@@ -2,10 +2,9 @@ use Rattle.dp_sim.specs.World.{world_after}
 use Rattle.dp_sim_laws.proofs.Speaking.{spoken}
 use Rattle.dp_sim_laws.proofs.laws.schedules_are_spelled.Goals as goal
 
-pub returns-clause-entries : goal.returns-clause-entries
-returns-clause-entries c = λ actions epoch each.
-    let w = world_after actions in
-    let h = spoken (record {
+pub returns : goal.returns
+returns c =
+    let spoken_after = spoken (record {
       moves = c.instructions_are_moves.ensures;
       first = c.worlds_stay_worlds.ensures.first;
       stays = c.worlds_stay_worlds.ensures.stays;
@@ -13,17 +12,11 @@ returns-clause-entries c = λ actions epoch each.
       histories = c.histories_are_spelled.ensures;
       short = c.histories_are_short.ensures;
       snapshots = c.snapshots_are_spelled.ensures;
-    }) actions each in
-    c.histories_are_spelled.ensures w.past epoch h.speaks.journal h.world.events
-
-pub returns-clause-events : goal.returns-clause-events
-returns-clause-events c = λ actions each.
-    (spoken (record {
-      moves = c.instructions_are_moves.ensures;
-      first = c.worlds_stay_worlds.ensures.first;
-      stays = c.worlds_stay_worlds.ensures.stays;
-      before = c.steps_lead_on.ensures.before;
-      histories = c.histories_are_spelled.ensures;
-      short = c.histories_are_short.ensures;
-      snapshots = c.snapshots_are_spelled.ensures;
-    }) actions each).speaks.journal
+    }) in
+    record {
+      entries = λ actions epoch each.
+          let w = world_after actions in
+          let h = spoken_after actions each in
+          c.histories_are_spelled.ensures w.past epoch h.speaks.journal h.world.events;
+      events = λ actions each. (spoken_after actions each).speaks.journal;
+    }

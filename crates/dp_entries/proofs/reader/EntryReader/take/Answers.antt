@@ -13,19 +13,10 @@ pub returns-in-Ok-clause-given : goal.returns-in-Ok-clause-given
 returns-in-Ok-clause-given g c = λ bytes left entries h.
     let M = g.S.Standing.may_stand in
     let inside = c.self.inside in
-    let old : Reader = record {
-      first = inside.first;
-      limit = inside.limit;
-      stream = inside.splitter;
-      count = inside.count;
-      over = inside.over;
-      ended = inside.ended;
-    } in
-    let new : Reader = record old { stream = c.drop_frame.new.self; count = inside.count + 1 } in
     let taken = takes_first M inside.count inside.splitter c.drop_frame.new.self c.in-Some.frame
     c.in-Ok.entry c.in-Some.ensures.fits c.in-Some.ensures.prefix c.drop_frame.ensures.prefix
     c.in-Ok.ensures.stands in
-    reads_entry M bytes left entries old new c.in-Ok.entry taken refl refl refl refl
+    reads_entry M bytes left entries _ _ c.in-Ok.entry taken refl refl refl refl
     (subst (λ (r : Reader). HasRead M bytes left entries r) (sym c.self.view_is) h)
 
 pub returns-in-Err-clause-ends : goal.returns-in-Err-clause-ends
@@ -33,14 +24,6 @@ returns-in-Err-clause-ends g c = λ bytes left entries h.
     let M = g.S.Standing.may_stand in
     let IsCause = g.S.Standing.is_cause in
     let inside = c.self.inside in
-    let old : Reader = record {
-      first = inside.first;
-      limit = inside.limit;
-      stream = inside.splitter;
-      count = inside.count;
-      over = inside.over;
-      ended = inside.ended;
-    } in
     let frame = c.in-Some.frame in
     let after : Stream = record {
       held = drop (length (spelling frame)) inside.splitter.held;
@@ -51,7 +34,7 @@ returns-in-Err-clause-ends g c = λ bytes left entries h.
     rw c.end_of_refusal.ensures
     (subst (λ (r : Reader). EndsReading M IsCause r.first r.limit bytes left entries
     (refused_at (inside.first + c.at.result) c.in-Err.why)) c.self.view_is
-    (ends_stop M IsCause c.one_standing.ensures.none bytes left entries old after c.at.result
+    (ends_stop M IsCause c.one_standing.ensures.none bytes left entries _ after c.at.result
     c.in-Err.why bad c.at.ensures.value
     (subst (λ (r : Reader). HasRead M bytes left entries r) (sym c.self.view_is) h)))
 
@@ -59,19 +42,10 @@ pub returns-in-Ok-clause-goes_on : goal.returns-in-Ok-clause-goes_on
 returns-in-Ok-clause-goes_on g c = λ source left start entries h.
     let M = g.S.Standing.may_stand in
     let inside = c.self.inside in
-    let old : Reader = record {
-      first = inside.first;
-      limit = inside.limit;
-      stream = inside.splitter;
-      count = inside.count;
-      over = inside.over;
-      ended = inside.ended;
-    } in
-    let new : Reader = record old { stream = c.drop_frame.new.self; count = inside.count + 1 } in
     let taken = takes_first M inside.count inside.splitter c.drop_frame.new.self c.in-Some.frame
     c.in-Ok.entry c.in-Some.ensures.fits c.in-Some.ensures.prefix c.drop_frame.ensures.prefix
     c.in-Ok.ensures.stands in
-    on_takes M source left start entries old new c.in-Ok.entry taken refl refl refl refl
+    on_takes M source left start entries _ _ c.in-Ok.entry taken refl refl refl refl
     (subst (λ (r : Reader). ReadOn M source left start entries r) (sym c.self.view_is) h)
 
 pub returns-in-Err-clause-stops : goal.returns-in-Err-clause-stops
@@ -79,14 +53,6 @@ returns-in-Err-clause-stops g c = λ source left start entries h.
     let M = g.S.Standing.may_stand in
     let IsCause = g.S.Standing.is_cause in
     let inside = c.self.inside in
-    let old : Reader = record {
-      first = inside.first;
-      limit = inside.limit;
-      stream = inside.splitter;
-      count = inside.count;
-      over = inside.over;
-      ended = inside.ended;
-    } in
     let frame = c.in-Some.frame in
     let after : Stream = record {
       held = drop (length (spelling frame)) inside.splitter.held;
@@ -94,8 +60,7 @@ returns-in-Err-clause-stops g c = λ source left start entries h.
     } in
     let bad = refuses_first IsCause inside.count inside.splitter frame c.in-Err.why
     c.in-Some.ensures.fits c.in-Some.ensures.prefix c.in-Err.ensures.refused in
-    let read : ReadOn M source left start entries old =
-    subst (λ (r : Reader). ReadOn M source left start entries r) (sym c.self.view_is) h in
+    let read = subst (λ (r : Reader). ReadOn M source left start entries r) (sym c.self.view_is) h in
     rw c.end_of_refusal.ensures
     (subst (λ (r : Reader). HaltsOn M IsCause r.limit source left start entries r.stream.held
     (refused_at (inside.first + c.at.result) c.in-Err.why)) c.self.view_is

@@ -1,4 +1,4 @@
-use Rattle.std.proofs.Common.{◌≡◌, ◌+◌, ◌<◌, List, length, get_or, take, cond, arith, ap, ◌∙◌, sym}
+use Rattle.std.proofs.Common.{◌≡◌, List, take, cond, arith, ap, ◌∙◌, sym}
 use Rattle.std.proofs.lemmas.Bool.{cond-true, cond-false}
 use Rattle.std.proofs.lemmas.List.{take_all}
 use Rattle.std.proofs.lemmas.List.Sums.{fold_more}
@@ -7,38 +7,24 @@ use Rattle.dp_blend.specs.Blending.{blend}
 use Rattle.dp_pixels.specs.declared.dabs.PlacedDab.{PlacedDab}
 use Rattle.dp_pixels.specs.Dabs.{dab_covers, placed_dabs}
 use Rattle.dp_pixels.specs.Commands.{dabs_blended}
-use Rattle.dp_pixels.proofs.Strokes.{IsLast, last_more, placed_is, length-placed_dabs}
+use Rattle.dp_pixels.proofs.Strokes.{IsNext, next_is, length-placed_dabs}
 use Rattle.dp_pixels.proofs.dabs.DabRun.pixel_after.Goals as goal
 use Rattle.dp_pixels.proofs.dabs.DabRun.pixel_after.Goals.{After-placed_after-placed, then-covers}
 use Rattle.dp_pixels.proofs.dabs.DabRun.pixel_after.Goals.{else-covers}
 
--- the dab stands after the last one
-next : (c : After-placed_after-placed)
-    → IsLast c.args.self.at.x c.args.self.at.y c.args.self.dabs.now (c.loop-dab.dab-index + 1)
-    c.placed_after-placed.result.at
+-- the dab is the next of the list
+next : (c : After-placed_after-placed) → IsNext c.args.self.at.x c.args.self.at.y
+    c.args.self.dabs.now c.loop-dab.dab-index c.placed_after-placed.result
 next c =
     let s = c.args.self in
-    last_more s.at.x s.at.y s.dabs.now c.loop-dab.dab-index c.loop-dab.last
-    c.placed_after-placed.result
-    c.loop-dab-test.true
-    c.placed_after-placed.ensures.value c.placed_after-placed.ensures.near_x
-    c.placed_after-placed.ensures.near_y
+    let made = c.placed_after-placed.ensures in
+    next_is s.at.x s.at.y s.dabs.now c.loop-dab.dab-index c.loop-dab.last
+    c.placed_after-placed.result c.loop-dab-test.true made.value made.near_x made.near_y
     c.loop-dab.invariant.last
-
--- and is the next of the list
-is_next : (c : After-placed_after-placed) → get_or (placed_dabs c.args.self.at.x c.args.self.at.y
-    c.args.self.dabs.now) c.loop-dab.dab-index c.placed_after-placed.result
-    ≡ c.placed_after-placed.result
-is_next c =
-    let s = c.args.self in
-    placed_is s.at.x s.at.y s.dabs.now c.loop-dab.dab-index c.loop-dab.last
-    c.placed_after-placed.result
-    c.placed_after-placed.result c.loop-dab-test.true
-    c.placed_after-placed.ensures.value c.loop-dab.invariant.last
 
 pub covers-requires : goal.covers-requires
 covers-requires c =
-    let near = (next (goal.at.covers-requires c).After-placed_after-placed).near in
+    let near = (next (goal.at.covers-requires c).After-placed_after-placed).last.near in
     let short = c.args.self.short in
     let test = c.loop-dab-test.true in
     record { x = omega (arith, near.x, short, test); y = omega (arith, near.y, short, test) }
@@ -46,13 +32,11 @@ covers-requires c =
 pub loop-dab-preserved : goal.loop-dab-preserved
 loop-dab-preserved c =
     let s = c.args.self in
-    let a = (goal.at.loop-dab-preserved c).After-placed_after-placed in
+    let is_next = next (goal.at.loop-dab-preserved c).After-placed_after-placed in
     let dabs = placed_dabs s.at.x s.at.y s.dabs.now in
     let step = λ (under : Channels) (dab : PlacedDab).
     cond (dab_covers s.shape dab c.args.place.x c.args.place.y)
     (blend c.args.mode (fade c.args.source (from8 dab.opacity)) under) under in
-    let within : c.loop-dab.dab-index < length dabs = omega
-    (arith, c.loop-dab-test.true, length-placed_dabs s.at.x s.at.y s.dabs.now) in
     let here : c.if-covers.pixel ≡ step c.loop-dab.pixel c.placed_after-placed.result =
     elim c.if-covers.branch [
       | then-covers w ↦ w.pixel-is
@@ -67,14 +51,14 @@ loop-dab-preserved c =
           c.args.place.y) _ c.loop-dab.pixel (sym c.covers.ensures ∙ w.if-covers.false))
     ] in
     record {
-      last = next a;
+      last = is_next.last;
       blended = here
           ∙ (ap (λ (p : Channels). step p c.placed_after-placed.result) c.loop-dab.invariant.blended
           ∙ (ap (step (dabs_blended s.shape c.args.mode c.args.source
           (take c.loop-dab.dab-index dabs) c.args.place.x c.args.place.y c.args.old))
-          (sym (is_next a))
+          (sym is_next.is)
           ∙ sym (fold_more step c.args.old dabs c.loop-dab.dab-index c.placed_after-placed.result
-          within)));
+          is_next.within)));
     }
 
 pub returns : goal.returns

@@ -1,6 +1,5 @@
-use Rattle.std.proofs.Common.{◌≡◌, ℕ, ◌+◌, ◌-◌, length, get_or, drop}
-use Rattle.std.proofs.Common.{◌&&◌, leb, ltb, ap, ◌∙◌, arith, rules, SFits, w64}
-use Rattle.std.proofs.Common.{to_z, of_z}
+use Rattle.std.proofs.Common.{◌≡◌, ℕ, ◌+◌, ◌-◌, length, get_or, drop, ◌&&◌, leb, ltb, ap, ◌∙◌}
+use Rattle.std.proofs.Common.{arith, rules, SFits, w64, to_z, of_z}
 use Rattle.std.specs.Prelude.{ℤ, pos, ◌+ℤ◌, ◌≤ℤ◌, unsigned_abs}
 use Rattle.std.specs.Option.{option_map_or}
 use Rattle.std.proofs.lemmas.Int.{ints}
