@@ -16,11 +16,9 @@ over_within sa da p q = omega (arith, mul_le_right da (32768 - sa) q)
 pub alpha_within : (mode : Mode) (sa da : ℕ) → sa ≤ 32768 → da ≤ 32768
     → alpha_blended mode sa da ≤ 32768
 alpha_within Erase sa da p q = omega (arith, mul_le_right da (32768 - sa) q)
-alpha_within Normal sa da p q = over_within sa da p q
-alpha_within Multiply sa da p q = over_within sa da p q
-alpha_within Add sa da p q = over_within sa da p q
 alpha_within Recolor sa da p q = q
 alpha_within Replace sa da p q = p
+alpha_within _ sa da p q = over_within sa da p q
 
 -- after blending, a channel is at most alpha
 pub channel_within : (mode : Mode) (sc sa dc da : ℕ) → sc ≤ sa → sa ≤ 32768 → dc ≤ da → da ≤ 32768

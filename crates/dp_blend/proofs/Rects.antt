@@ -37,14 +37,18 @@ changed_between f left right x p = if is_between left right x then f p else p
 -- one more row is changed
 pub filled-more : (f : Channels → Channels) (left right stride size j : ℕ)
     (old now part : List Channels)
-    → size ≡ stride → j * stride + stride ≤ length old
+    → size ≡ stride → j < length old / stride
     → length part ≡ length (mid_of (j * stride) size now)
     → ((x : ℕ) (d : Channels) → x < length (mid_of (j * stride) size now)
     → get_or part x d ≡ changed_between f left right x (get_or (mid_of (j * stride) size now) x d))
     → FilledTo f left right stride j old now
     → FilledTo f left right stride (j + 1) old (put_mid (j * stride) size now part)
-filled-more f left right stride size j old now part size_is room long made before =
+filled-more f left right stride size j old now part size_is is_row long made before =
     let start = j * stride in
+    let whole = div-add-mod' (length old) stride in
+    let rows : (j + 1) * stride ≤ length old / stride * stride =
+    mul-le-mul_right stride (omega arith) in
+    let room : j * stride + stride ≤ length old = omega arith in
     let mid = mid_of start size now in
     let fits : start ≤ length now = omega (arith, before.count) in
     let rest : length (drop start now) ≡ length now - start = length-drop start now in
@@ -83,11 +87,13 @@ filled-more f left right stride size j old now part size_is room long made befor
 
 -- once all rows are changed, each place is
 pub filled-all : (f : Channels → Channels) (left right stride j : ℕ) (old now : List Channels)
-    → 0 < stride → length old ≤ j * stride → FilledTo f left right stride j old now
-    → (k : ℕ) (d : Channels) → k < length old
+    → 0 < stride → length old % stride ≡ 0 → j ≡ length old / stride
+    → FilledTo f left right stride j old now → (k : ℕ) (d : Channels) → k < length old
     → get_or now k d ≡ (if is_between left right (k % stride)
     then f (get_or old k d) else get_or old k d)
-filled-all f left right stride j old now some all filled k d in_list =
+filled-all f left right stride j old now some whole last filled k d in_list =
+    let rows = div-add-mod' (length old) stride in
+    let all : length old ≤ j * stride = rw last (omega arith) in
     let at : k / stride * stride + k % stride ≡ k = div-add-mod' k stride in
     let row : k / stride < j = div_below k stride j some (omega arith) in
     subst (λ (n : ℕ). get_or now n d ≡ (if is_between left right (k % stride)

@@ -1,7 +1,6 @@
 -- Rows whose places are changed one after the other.
-use Rattle.std.proofs.Common.{◌≡◌, ℕ, ◌+◌, ◌<◌, ◌≤◌, ◌≢◌, List, [], ◌∷◌, ◌++◌, length, get_or}
-use Rattle.std.proofs.Common.{set, take}
-use Rattle.std.proofs.Common.{suc, zero, refl, sym, ap, ◌∙◌, arith, add-one, get_or-set_other}
+use Rattle.std.proofs.Common.{◌≡◌, ℕ, ◌+◌, ◌<◌, ◌≤◌, ◌≢◌, List, [], ◌∷◌, ◌++◌, length, get_or, set}
+use Rattle.std.proofs.Common.{take, suc, zero, refl, sym, ap, ◌∙◌, arith, add-one, get_or-set_other}
 use Rattle.std.proofs.lemmas.List.{take_all}
 use Rattle.dp_blend.specs.Color.{Channels, clear, fade}
 use Rattle.dp_blend.specs.Blending.{blend, masked, row_blended, row_filled, row_merged}

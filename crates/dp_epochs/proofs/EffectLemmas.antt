@@ -31,7 +31,6 @@ use Rattle.dp_epochs.specs.declared.event.Event.TheVariants as event
 use Rattle.dp_epochs.specs.declared.event.Reply.{Reply}
 use Rattle.dp_epochs.specs.declared.event.Reply.TheVariants as reply
 use Rattle.dp_epochs.specs.State.{State, acted, stays, noted, after_event, epoch_of, here, entry_of}
-use Rattle.dp_epochs.specs.Connections.{is_open}
 use Rattle.dp_epochs.specs.State.{history_of, connection_of, open_connection}
 use Rattle.dp_epochs.specs.State.{has_acknowledged, is_name, free_id, opened_as, owner_on_join}
 use Rattle.dp_epochs.specs.State.{new_connection, left, next_owner, owner_on_leave, closed_by}
@@ -430,12 +429,9 @@ owner-few (Some user) = omega arith
 
 -- at most two entries are placed
 pub entries-few : (e : Event) (effect : Effect) → length (entries_of e effect) ≤ 2
-entries-few e (Placed conn c) = omega arith
-entries-few e (Filtered conn c) = omega arith
 entries-few e (Joined user next) = omega (arith, owner-few next)
 entries-few e (Left conn c next) = omega (arith, owner-few next)
-entries-few e (Dropped conn c) = omega arith
-entries-few e other = omega arith
+entries-few e _ = omega arith
 
 last-grows : (ended : List (List Entry)) (live more : List Entry) (k : ℕ)
     → Continues (slice_index_or (ended ++ live ∷ []) k [])

@@ -1,8 +1,7 @@
 -- Who is present has joined last as before an event, or by it.
-use Rattle.std.proofs.Common.{◌≡◌, ℕ, ◌+◌, ◌-◌, ◌<◌, ◌==◌, ◌&&◌, ◌||◌, not, Bool, true, false, cond}
-use Rattle.std.proofs.Common.{if◌then◌else◌, List, [], ◌∷◌, ◌++◌, length, slice_get}
-use Rattle.std.proofs.Common.{Option, None, Some, is_some}
-use Rattle.std.proofs.Common.{refl, sym, ap, subst, ◌∙◌, ⊎_elim, arith, append-nil}
+use Rattle.std.proofs.Common.{◌≡◌, ℕ, ◌+◌, ◌-◌, ◌==◌, ◌&&◌, ◌||◌, not, Bool, true, false, cond}
+use Rattle.std.proofs.Common.{if◌then◌else◌, List, [], ◌∷◌, ◌++◌, length, slice_get, Option, None}
+use Rattle.std.proofs.Common.{Some, is_some, refl, sym, ap, subst, ◌∙◌, ⊎_elim, arith, append-nil}
 use Rattle.std.specs.List.{filter, find}
 use Rattle.std.proofs.lemmas.Bool.{cond-true, cond-false, cases_Bool, cases_eq, ne_eqb, eq-eqb}
 use Rattle.std.proofs.lemmas.Bool.{false≢true}
@@ -21,7 +20,7 @@ use Rattle.dp_epochs.specs.declared.effect.Effect.TheVariants.{Dropped, Reopened
 use Rattle.dp_epochs.specs.declared.event.Event.{Event}
 use Rattle.dp_epochs.specs.declared.event.Event.TheVariants as event
 use Rattle.dp_epochs.specs.declared.event.Reply.TheVariants as reply
-use Rattle.dp_epochs.specs.State.{State, acted, stays, noted, after_event, epoch_of, entry_of}
+use Rattle.dp_epochs.specs.State.{State, stays, after_event, epoch_of, entry_of}
 use Rattle.dp_epochs.specs.State.{is_name, is_present, free_id, user_ids, present_users, opened_as}
 use Rattle.dp_epochs.specs.State.{next_owner, owner_on_join, sent_commands, kept_by}
 use Rattle.dp_epochs.specs.Effects.{own_message, entries_of, live_after, IsEffect}

@@ -1,9 +1,8 @@
 -- The laws of sessions.
 use Rattle.std.proofs.Common.{◌≡◌, ℕ, zero, suc, ◌+◌, ◌*◌, ◌<◌, ◌≤◌, ◌==◌, Bool, true, false}
-use Rattle.std.proofs.Common.{nat_lt, nat_le, if◌then◌else◌, List, [], ◌∷◌, ◌++◌, length}
-use Rattle.std.proofs.Common.{map, fold, All, Option, None, Some, Result, Ok, Err}
-use Rattle.std.proofs.Common.{refl, sym, ap, subst, ◌∙◌, ⊎_elim, arith}
-use Rattle.std.proofs.Common.{length-append}
+use Rattle.std.proofs.Common.{nat_lt, nat_le, if◌then◌else◌, List, [], ◌∷◌, ◌++◌, length, map, fold}
+use Rattle.std.proofs.Common.{All, Option, None, Some, Result, Ok, Err, refl, sym, ap, subst, ◌∙◌}
+use Rattle.std.proofs.Common.{⊎_elim, arith, length-append}
 use Rattle.std.specs.Prelude.{slice_index_or}
 use Rattle.std.specs.List.{filter, sum_by}
 use Rattle.std.specs.Option.{option_map, option_map_or}
@@ -455,13 +454,10 @@ weaker {m} n shut before le =
 
 stays-before : (past : Past) (e : Event) (n : ℕ) → ShutBefore past → length past.journal ≤ n
     → All (λ s. s.n ≤ n) (shut_with (length past.journal) past.shut e)
-stays-before past (event.Open name registered) n before le =
-    weaker n past.shut before le
-stays-before past (event.Say conn m) n before le =
-    weaker n past.shut before le
 stays-before past (event.Close conn) n before le =
     All-push (λ (s : ShutAt). s.n ≤ n) past.shut (record { conn = conn; n = length past.journal })
     (weaker n past.shut before le) le
+stays-before past _ n before le = weaker n past.shut before le
 
 pub before-step : (past : Past) (e : Event) → ShutBefore past → ShutBefore (sure_step past e)
 before-step past e before =
@@ -485,9 +481,7 @@ stays-broken past e (Ok answer) new first first_fault step =
     (h.reply, ap (λ p. p.first_fault) h.after ∙ first_fault)
 stays-broken past (event.Open name registered) (Err want) new first first_fault step =
     (tt, ap (λ p. p.first_fault) step ∙ first_fault)
-stays-broken past (event.Say conn m) (Err want) new first first_fault step =
-    (tt, ap (λ p. p.first_fault) step ∙ first_fault)
-stays-broken past (event.Close conn) (Err want) new first first_fault step =
+stays-broken past _ (Err want) new first first_fault step =
     (tt, ap (λ p. p.first_fault) step ∙ first_fault)
 
 -- each outcome is that fault

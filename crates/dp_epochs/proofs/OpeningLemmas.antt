@@ -7,11 +7,11 @@ use Rattle.std.specs.Prelude.{option_to_list}
 use Rattle.std.specs.List.{AllByRecursion, filter, filter_map, cons_option, range_with_len}
 use Rattle.std.specs.Option.{option_map}
 use Rattle.std.proofs.lemmas.Bool.{cond_both, cond-true, cond-false, cases_Bool, cases_eq}
-use Rattle.std.proofs.lemmas.Bool.{and_parts, false≢true}
-use Rattle.std.proofs.lemmas.Bool.{eq-eqb, ne_eqb, eqb-true}
+use Rattle.std.proofs.lemmas.Bool.{and_parts, false≢true, ne_eqb, eqb-true}
 use Rattle.std.proofs.lemmas.List.{length-map}
 use Rattle.std.proofs.lemmas.List.Elements.{filter-append}
 use Rattle.std.proofs.lemmas.List.FromFn.{length-range_with_len}
+use Rattle.std.proofs.Math.Bool.{and-false}
 use Rattle.dp_msg_draw.specs.declared.draw.Draw.{Draw}
 use Rattle.dp_msg_meta.specs.Fields.{RiseFrom}
 use Rattle.dp_msg_meta.specs.declared.message.Meta.{Meta}
@@ -320,10 +320,6 @@ opening-going epoch history present commands kept =
 
 -- ---- Joins
 
-and_false : (b : Bool) → (b && false) ≡ false
-and_false true = refl
-and_false false = refl
-
 -- ids that rise from a number are at least that
 listed-above : (low user : ℕ) (ids : List ℕ) → RiseFrom low ids → lists ids user ≡ true → low ≤ user
 listed-above low user [] rise is = cc
@@ -347,7 +343,7 @@ module _ (history : List Entry) (user : ℕ) where
       eqb-true e.user other (and_parts (is_some (joined e.msg)) (e.user == other) is).1 in
       ap (λ b. is_some (joined e.msg) && b)
       (ne_eqb e.user user (λ same. differ (sym whose ∙ same)))
-      ∙ and_false (is_some (joined e.msg))
+      ∙ and-false (is_some (joined e.msg))
 
   -- Joins before which none is the user's
   join-other : (other : ℕ) (o : Option Entry) (rest : List Entry) → (other ≡ user → ⊥)
@@ -394,7 +390,7 @@ module _ (history : List Entry) (user : ℕ) where
       cond-false (is_join_of user (server_entry m)) (server_entry m ∷ mine (map server_entry ms))
       (mine (map server_entry ms))
       (ap (λ b. is_some (joined (msg.Meta m)) && b) (ne_eqb 0 user (λ same. omega arith))
-      ∙ and_false (is_some (joined (msg.Meta m))))
+      ∙ and-false (is_some (joined (msg.Meta m))))
       ∙ server-none above ms
 
   commands-none : (commands : List Draw) → mine (map command_entry commands) ≡ []

@@ -1,6 +1,5 @@
 -- What the commands make of the rows, and of what is held.
-use Rattle.std.proofs.Common.{arith}
-use Rattle.std.proofs.Common.{◌≡◌, ◌==◌, ◌&&◌, ℕ, Bool, true, false, not, cond, List, []}
+use Rattle.std.proofs.Common.{arith, ◌≡◌, ◌==◌, ◌&&◌, ℕ, Bool, true, false, not, cond, List, []}
 use Rattle.std.proofs.Common.{◌∷◌, ◌++◌, map, get_or, Option, None, Some, refl, ap, sym, ◌∙◌, subst}
 use Rattle.std.proofs.Common.{eq-eqb}
 use Rattle.std.specs.Prelude.{is_some, All}
@@ -11,6 +10,7 @@ use Rattle.std.proofs.lemmas.List.{map-append}
 use Rattle.std.proofs.lemmas.List.Folds.{find-append}
 use Rattle.std.proofs.lemmas.List.Elements.{All-head, All-tail}
 use Rattle.std.proofs.lemmas.Simd.{map-map}
+use Rattle.std.proofs.Math.Bool.{and-true}
 use Rattle.dp_msg_draw.specs.declared.draw.Draw.{Draw}
 use Rattle.dp_msg_draw.specs.declared.draw.Draw.TheVariants.{LayerCreate, LayerAttr, LayerTitle}
 use Rattle.dp_msg_draw.specs.declared.draw.Draw.TheVariants.{LayerMove, LayerDelete}
@@ -223,10 +223,6 @@ module _ {X : Type 0} (contents : List (Held X)) (rows : List LayerRow)
       ∙ sym (filter-map (row_with contents) (λ (r : Row X). not (is_in rows r.layer.id id)) rows)
       ∙ ap (λ ls. filter (λ (r : Row X). not (is_in ls r.layer.id id)) (rows_with contents rows))
       (sym (layers_with contents rows))
-    where
-      and-true : (b : Bool) → (b && true) ≡ b
-      and-true true = refl
-      and-true false = refl
 
   deleted_paint : (y : ℕ) → is_some (held_by holds y) ≡ is_paint_row left y
   deleted_paint y =

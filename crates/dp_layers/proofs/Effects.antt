@@ -1,12 +1,10 @@
 -- The rows after a command: they are a tree.
-use Rattle.std.proofs.Common.{arith}
-use Rattle.std.proofs.Common.{◌≡◌, ◌≢◌, ◌==◌, ◌||◌, ◌&&◌, inl, inr, ℕ, Bool, true, false, not, List}
-use Rattle.std.proofs.Common.{[], ◌∷◌, ◌++◌, map, length, get_or, Option, None, refl, ap, sym}
-use Rattle.std.proofs.Common.{◌∙◌, subst}
+use Rattle.std.proofs.Common.{arith, ◌≡◌, ◌≢◌, ◌==◌, ◌||◌, ◌&&◌, inl, inr, ℕ, Bool, true, false}
+use Rattle.std.proofs.Common.{not, List, [], ◌∷◌, ◌++◌, map, length, get_or, Option, None, refl, ap}
+use Rattle.std.proofs.Common.{sym, ◌∙◌, subst}
 use Rattle.std.specs.Prelude.{is_some, All, nat_lt}
 use Rattle.std.specs.List.{filter}
-use Rattle.std.proofs.lemmas.Bool.{cond_both, and_parts}
-use Rattle.std.proofs.lemmas.Bool.{ltb-true}
+use Rattle.std.proofs.lemmas.Bool.{cond_both, and_parts, ltb-true}
 use Rattle.std.proofs.lemmas.List.{map-append}
 use Rattle.std.proofs.lemmas.List.Elements.{All-push, All-map, All-filter}
 use Rattle.std.proofs.lemmas.List.Sums.{AllPass-from_list_all}
@@ -20,8 +18,7 @@ use Rattle.dp_layers.specs.Layers.{are_within, is_listed_mode}
 use Rattle.dp_layers.specs.Rows.{Row, layers_of}
 use Rattle.dp_layers.specs.Changes.{change_row, with_layer, rows_changed, can_create, new_row}
 use Rattle.dp_layers.specs.Changes.{created, can_set_attr, set_attr, set_title, set_parent}
-use Rattle.dp_layers.specs.Changes.{can_move, placed, moved, deleted}
-use Rattle.dp_layers.specs.Changes.{rows_after, makes_paint_row}
+use Rattle.dp_layers.specs.Changes.{can_move, placed, moved, deleted, rows_after, makes_paint_row}
 use Rattle.dp_layers.specs.Tree.{IsLayerTree, IsTree}
 use Rattle.dp_layers.proofs.Finding.{row_of-map}
 use Rattle.dp_layers.proofs.Placing.{IsPlace, All-placed}

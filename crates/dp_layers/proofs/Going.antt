@@ -1,7 +1,6 @@
 -- Going up from a row to its parents.
-use Rattle.std.proofs.Common.{arith}
-use Rattle.std.proofs.Common.{◌≡◌, ◌≢◌, ◌==◌, ℕ, zero, suc, true, false, ◌||◌, List, refl, ap, sym}
-use Rattle.std.proofs.Common.{◌∙◌, subst}
+use Rattle.std.proofs.Common.{arith, ◌≡◌, ◌≢◌, ◌==◌, ℕ, zero, suc, true, false, ◌||◌, List, refl}
+use Rattle.std.proofs.Common.{ap, sym, ◌∙◌, subst}
 use Rattle.std.proofs.lemmas.Bool.{ne_eqb, eqb-true, false≢true}
 use Rattle.dp_layers.specs.declared.row.LayerRow.{LayerRow}
 use Rattle.dp_layers.specs.Layers.{parent_of, is_within, is_below}
@@ -80,12 +79,3 @@ module _ (C : ℕ → Type 0) (rows other : List LayerRow) (closed : (id : ℕ) 
   is_within-agree (suc n) id c =
       ap (λ b. id == 0 || b) (ap (is_within n other) (agree id c)
       ∙ is_within-agree n (parent_of rows id) (closed id c))
-
-  pub is_below-agree : (n id target : ℕ) → C id
-      → is_below n other id target ≡ is_below n rows id target
-  unfolding is_below
-  is_below-agree zero id target c = refl
-  is_below-agree (suc n) id target c =
-      ap (λ p. p == target || is_below n other p target) (agree id c)
-      ∙ ap (λ b. parent_of rows id == target || b)
-      (is_below-agree n (parent_of rows id) target (closed id c))

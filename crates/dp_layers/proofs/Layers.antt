@@ -1,7 +1,6 @@
 -- The rows of a tree without what they hold, after a change.
-use Rattle.std.proofs.Common.{arith}
-use Rattle.std.proofs.Common.{◌≡◌, ℕ, not, List, [], ◌∷◌, map, None}
-use Rattle.std.proofs.Common.{refl, ap, sym, ◌∙◌, Bool, ◌&&◌}
+use Rattle.std.proofs.Common.{arith, ◌≡◌, ℕ, not, List, [], ◌∷◌, map, None, refl, ap, sym, ◌∙◌}
+use Rattle.std.proofs.Common.{Bool, ◌&&◌}
 use Rattle.std.specs.List.{filter, list_all}
 use Rattle.std.specs.Option.{option_map}
 use Rattle.std.proofs.lemmas.Bool.{cond_both}

@@ -5,9 +5,8 @@ use Rattle.std.proofs.Common.{◌∙◌, subst, ⊎_elim, eq-eqb, ◌<◌, arith
 use Rattle.std.specs.Prelude.{is_some, All}
 use Rattle.std.specs.List.{filter, IsDistinct}
 use Rattle.std.specs.Option.{option_map, option_map_or}
-use Rattle.std.proofs.lemmas.Bool.{cases_eq, cond_both, false≢true}
-use Rattle.std.proofs.lemmas.Bool.{or_parts, or_from, not-true, not_from_false}
-use Rattle.std.proofs.lemmas.Bool.{false_from_ne_true}
+use Rattle.std.proofs.lemmas.Bool.{cases_eq, cond_both, false≢true, or_parts, or_from, not-true}
+use Rattle.std.proofs.lemmas.Bool.{not_from_false, false_from_ne_true}
 use Rattle.std.proofs.lemmas.List.{length_push, length-map}
 use Rattle.std.proofs.lemmas.List.Elements.{All-cons, All-head, All-tail, All-nil, All-push}
 use Rattle.std.proofs.lemmas.List.Elements.{All-map, All-filter}

@@ -1,19 +1,13 @@
 -- The kinds of messages, by variant: each variant has kinds of its own.
-use Rattle.std.proofs.Common.{◌≡◌, ◌≢◌, ℕ, ◌≤◌, List, inl, inr}
-use Rattle.std.proofs.Common.{subst, arith, lit≤}
+use Rattle.std.proofs.Common.{◌≡◌, ◌≢◌, ℕ, ◌≤◌, List, inl, inr, subst, arith, lit≤}
 use Rattle.std.specs.Prelude.{⊤}
 use Rattle.dp_msg_draw.specs.declared.draw.Draw.{Draw}
-use Rattle.dp_msg_draw.specs.declared.draw.Draw.TheVariants.{CanvasResize, LayerCreate, LayerAttr}
-use Rattle.dp_msg_draw.specs.declared.draw.Draw.TheVariants.{LayerTitle, LayerMove, LayerDelete}
-use Rattle.dp_msg_draw.specs.declared.draw.Draw.TheVariants.{PutImage, FillRect, PutTile}
-use Rattle.dp_msg_draw.specs.declared.draw.Draw.TheVariants.{Background, DabsRound, DabsSquare}
-use Rattle.dp_msg_draw.specs.declared.draw.Draw.TheVariants.{MoveRect}
+use Rattle.dp_msg_draw.specs.declared.draw.Draw.TheVariants.{CanvasResize}
 use Rattle.dp_msg_draw.specs.Limits.{IsDrawKind}
 use Rattle.dp_msg_draw.specs.Payloads.{draw_kind, SpellsDraw}
 use Rattle.dp_msg_meta.specs.declared.message.Control.{Control}
 use Rattle.dp_msg_meta.specs.declared.message.Meta.{Meta}
-use Rattle.dp_msg_meta.specs.Payloads.{IsControlKind, SpellsControl}
-use Rattle.dp_msg_meta.specs.Payloads.{IsMetaKind, SpellsMeta}
+use Rattle.dp_msg_meta.specs.Payloads.{IsControlKind, SpellsControl, IsMetaKind, SpellsMeta}
 use Rattle.dp_messages.specs.declared.message.Msg.{Msg}
 use Rattle.dp_messages.specs.declared.message.Msg.TheVariants as msg
 use Rattle.dp_messages.specs.Messages.{IsListedKind, Spells}
@@ -57,18 +51,7 @@ meta_range kind (inr high) = (omega arith, omega arith)
 
 draw_bounds : (m : Draw) → (129 ≤ draw_kind m) × (draw_kind m ≤ 152)
 draw_bounds (CanvasResize top right bottom left) = (lit≤ tt, lit≤ tt)
-draw_bounds (LayerCreate id parent group title) = (lit≤ tt, lit≤ tt)
-draw_bounds (LayerAttr id opacity mode hidden) = (lit≤ tt, lit≤ tt)
-draw_bounds (LayerTitle id title) = (lit≤ tt, lit≤ tt)
-draw_bounds (LayerMove id parent above) = (lit≤ tt, lit≤ tt)
-draw_bounds (LayerDelete id) = (lit≤ tt, lit≤ tt)
-draw_bounds (PutImage layer mode x y w h colors) = (lit≤ tt, lit≤ tt)
-draw_bounds (FillRect layer mode x y w h color) = (lit≤ tt, lit≤ tt)
-draw_bounds (PutTile layer col row repeat content) = (lit≤ tt, lit≤ tt)
-draw_bounds (Background color) = (lit≤ tt, lit≤ tt)
-draw_bounds (DabsRound layer x y r g b mode dabs) = (lit≤ tt, lit≤ tt)
-draw_bounds (DabsSquare layer x y r g b mode dabs) = (lit≤ tt, lit≤ tt)
-draw_bounds (MoveRect layer sx sy w h tx ty) = (lit≤ tt, lit≤ tt)
+draw_bounds _ = (lit≤ tt, lit≤ tt)
 
 pub in_range : KindLaws → (kind : ℕ) (payload : List ℕ) (m : Msg) → Spells kind payload m
     → InRange m kind
@@ -76,12 +59,10 @@ in_range laws kind payload (msg.Control m) s = control_range kind
     (laws.control m kind payload (to_control kind payload m s))
 in_range laws kind payload (msg.Meta m) s = meta_range kind
     (laws.meta m kind payload (to_meta kind payload m s))
-in_range laws kind payload (msg.Part command) s = s.kind
-in_range laws kind payload msg.Point s = s.kind
-in_range laws kind payload (msg.Undo target redo) s = s.kind
 in_range laws kind payload (msg.Draw command) s = let b = draw_bounds command in
     (omega (arith, s.kind, b.0), omega (arith, s.kind, b.1))
 in_range laws kind payload (msg.Opaque k body) s = tt
+in_range laws kind payload _ s = s.kind
 
 -- the message is of a variant of listed kinds
 abbrev pub IsOfListed : Msg → Type 0

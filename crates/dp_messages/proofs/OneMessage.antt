@@ -103,13 +103,11 @@ short laws control meta draw kind payload (msg.Part m) s =
       length-append (one_byte (draw_kind m)) (draw_payload m),
       s.spelled.1,
     )
-short laws control meta draw kind payload msg.Point s = omega (arith, ap length s.payload)
-short laws control meta draw kind payload (msg.Undo target redo) s = omega
-    (arith, ap length s.payload)
 short laws control meta draw kind payload (msg.Draw m) s = draw kind payload m
     (to_draw kind payload m s)
 short laws control meta draw kind payload (msg.Opaque k body) s = omega
     (arith, ap length s.payload, s.spelled.2)
+short laws control meta draw kind payload _ s = omega (arith, ap length s.payload)
 
 abbrev entry_of : ℕ → Msg → Entry
 entry_of user m = record { user = user; msg = m }

@@ -1,9 +1,9 @@
 -- Commands whose feet don't meet, on a board.
-use Rattle.std.proofs.Common.{◌≡◌, ◌==◌, ℕ, ◌≤◌, Bool, true, false, not, List, [], ◌∷◌, map}
+use Rattle.std.proofs.Common.{◌≡◌, ◌==◌, ℕ, ◌≤◌, true, false, List, [], ◌∷◌, map}
 use Rattle.std.proofs.Common.{Option, None, Some, refl, ap, sym, ◌∙◌, ◌⊎◌, inl, inr, ⊎_elim}
 use Rattle.std.specs.Prelude.{option_map}
 use Rattle.std.proofs.lemmas.Bool.{cases_Bool, cond-true, cond-false, cond_both, eqb-true}
-use Rattle.std.proofs.lemmas.Bool.{false≢true}
+use Rattle.std.proofs.lemmas.Bool.{false≢true, not-true}
 use Rattle.dp_blend.specs.Color.{Channels}
 use Rattle.dp_msg_draw.specs.declared.draw.Draw.{Draw}
 use Rattle.dp_msg_draw.specs.declared.draw.Draw.TheVariants as draws
@@ -119,10 +119,6 @@ all_meets : (f : Footprint) → feet_meet All f ≡ true
 all_meets (Area layer rect) = refl
 all_meets (Two layer from to) = refl
 all_meets All = refl
-
-not-true : (b : Bool) → not b ≡ true → b ≡ false
-not-true true is = absurd (false≢true is)
-not-true false is = refl
 
 painted_twice : CommutingLaw → (board : Board) → IsBoard board → (a b : Draw) (la lb : ℕ)
     → IsOn a la → IsOn b lb → feet_meet (foot a) (foot b) ≡ false

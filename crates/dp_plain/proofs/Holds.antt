@@ -18,9 +18,8 @@ use Rattle.dp_layers.specs.Layers.{has_id, is_in, is_paint_row}
 use Rattle.dp_layers.specs.Rows.{Row, layers_of, contents_of, content_of, fill_row, with_content}
 use Rattle.dp_layers.specs.Rows.{map_content, map_contents}
 use Rattle.dp_layers.specs.Changes.{change_row, with_layer, rows_changed, set_attr, set_title}
-use Rattle.dp_layers.specs.Changes.{set_parent, new_row}
-use Rattle.dp_layers.specs.Changes.{inserted_after, placed, has_effect, effect_on}
-use Rattle.dp_layers.specs.Changes.{rows_after, makes_paint_row}
+use Rattle.dp_layers.specs.Changes.{set_parent, new_row, inserted_after, placed, has_effect}
+use Rattle.dp_layers.specs.Changes.{effect_on, rows_after, makes_paint_row}
 use Rattle.dp_layers.specs.Tree.{IsTree}
 use Rattle.dp_pixels.specs.Commands.{pixels_after}
 use Rattle.dp_plain.specs.Board.{Board, Covers, IsBoard}

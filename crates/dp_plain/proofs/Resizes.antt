@@ -1,9 +1,7 @@
 -- The board on new sides.
-use Rattle.std.proofs.Common.{◌≡◌, ℕ, ◌≤◌, cond, true, Some, None, Option, List}
-use Rattle.std.proofs.Common.{sym, ◌∙◌, ap}
+use Rattle.std.proofs.Common.{◌≡◌, ℕ, ◌≤◌, cond, true, Some, None, Option, List, sym, ◌∙◌, ap}
 use Rattle.std.specs.Prelude.{ℤ, pos, negsuc, ◌+ℤ◌, nat_le}
-use Rattle.std.proofs.lemmas.Bool.{and_parts, cond-true}
-use Rattle.std.proofs.lemmas.Bool.{leb-true, false≢true}
+use Rattle.std.proofs.lemmas.Bool.{and_parts, cond-true, leb-true, false≢true}
 use Rattle.std.proofs.lemmas.Option.{cond_some}
 use Rattle.dp_blend.specs.Color.{Channels}
 use Rattle.dp_layers.specs.Rows.{Row, map_contents}

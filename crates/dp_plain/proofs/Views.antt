@@ -1,7 +1,6 @@
 -- What is read of a board whose contents are seen as their pixels.
-use Rattle.std.proofs.Common.{◌≡◌, ℕ, ◌<◌, Bool, true, false, cond, List, [], map, Option}
-use Rattle.std.proofs.Common.{Bor, None, Some, refl, ap, sym, subst, ◌∙◌}
-use Rattle.std.proofs.Common.{Ok, Err}
+use Rattle.std.proofs.Common.{◌≡◌, ℕ, ◌<◌, Bool, true, false, cond, List, [], map, Option, Bor}
+use Rattle.std.proofs.Common.{None, Some, refl, ap, sym, subst, ◌∙◌, Ok, Err}
 use Rattle.std.specs.Prelude.{unwrap_or, option_copied, option_map, is_some, nat_lt, ◌&&◌, Result, OnErr}
 use Rattle.std.proofs.lemmas.Bool.{lt-ltb}
 use Rattle.dp_blend.specs.Color.{Channels}
@@ -16,8 +15,7 @@ use Rattle.dp_plain.specs.Board.{Board}
 use Rattle.dp_plain.specs.Commands.{arranged, with_change}
 use Rattle.dp_plain.specs.View.{pixel_in}
 use Rattle.dp_plain.proofs.Rows.{HaveIds, layers_of-map, content_of-mapped, tree_of_contents}
-use Rattle.dp_plain.proofs.Rows.{some_mapped}
-use Rattle.dp_plain.proofs.Rows.{filled-mapped, changed_none, changed_some}
+use Rattle.dp_plain.proofs.Rows.{some_mapped, filled-mapped, changed_none, changed_some}
 
 module _ {C : Type 0} (pixels : C → List Channels) (rows : List (Row C)) where
   pub layers_seen : layers_of (map_contents pixels rows) ≡ layers_of rows

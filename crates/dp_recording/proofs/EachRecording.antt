@@ -1,5 +1,5 @@
 -- It can't be that a recording comes to no end.
-use Rattle.std.proofs.Common.{◌≡◌, ℕ, List, [], refl}
+use Rattle.std.proofs.Common.{ℕ, List, [], refl}
 use Rattle.dp_messages.specs.declared.message.Entry.{Entry}
 use Rattle.dp_lines.specs.declared.run_end.RunEnd.{RunEnd}
 use Rattle.dp_lines.specs.declared.run_end.RunEnd.TheVariants as run
@@ -15,16 +15,7 @@ use Rattle.dp_recording.proofs.Ends.{ComesAfter}
 by-header : (input : List ℕ) (entries : List Entry) (end : RunEnd) → ComesAfter input entries end
     → RecordingComesTo input entries end
 by-header input entries run.BadHeader x = absurd x.3
-by-header input entries run.Done x = x
-by-header input entries (run.BadLine n) x = x
-by-header input entries run.ReadFault x = x
-by-header input entries run.WriteFault x = x
-by-header input entries run.LinkFault x = x
-by-header input entries run.Memory x = x
-by-header input entries run.Long x = x
-by-header input entries (run.Truncated n) x = x
-by-header input entries (run.BadMessage n) x = x
-by-header input entries run.Closed x = x
+by-header input entries _ x = x
 
 -- by the frames of a profile no input comes to no end
 abbrev pub EachEnds : Profile → Type 0

@@ -1,6 +1,5 @@
 -- What a recording comes to, in two cases.
-use Rattle.std.proofs.Common.{◌≡◌, ◌⊎◌, ℕ, List, [], Option, ap₂, inl}
-use Rattle.std.proofs.Common.{inr, refl, subst, sym, ◌∙◌}
+use Rattle.std.proofs.Common.{◌≡◌, ◌⊎◌, ℕ, List, [], Option, ap₂, inl, inr, refl, subst, sym, ◌∙◌}
 use Rattle.dp_messages.specs.declared.message.Entry.{Entry}
 use Rattle.dp_lines.specs.declared.run_end.RunEnd.{RunEnd}
 use Rattle.dp_lines.specs.declared.run_end.RunEnd.TheVariants as run
@@ -31,16 +30,7 @@ pub two-ways : (input : List ℕ) (entries : List Entry) (end : RunEnd)
     → RecordingComesTo input entries end
     → HasNone input entries end ⊎ ComesAfter input entries end
 two-ways input entries run.BadHeader x = inl (x.0, x.1, refl)
-two-ways input entries run.Done x = inr x
-two-ways input entries (run.BadLine n) x = inr x
-two-ways input entries run.ReadFault x = inr x
-two-ways input entries run.WriteFault x = inr x
-two-ways input entries run.LinkFault x = inr x
-two-ways input entries run.Memory x = inr x
-two-ways input entries run.Long x = inr x
-two-ways input entries (run.Truncated n) x = inr x
-two-ways input entries (run.BadMessage n) x = inr x
-two-ways input entries run.Closed x = inr x
+two-ways input entries _ x = inr x
 
 -- the laws of one header and of one reading
 abbrev pub OneHeader : Type 0

@@ -1,7 +1,6 @@
 -- Headers of bytes, and of these bytes with more after them.
 use Rattle.std.proofs.Common.{◌≡◌, ◌<◌, ◌≤◌, ◌⊎◌, ℕ, ◌+◌, ◌*◌, ◌-◌, List, ◌++◌, length, take, drop}
-use Rattle.std.proofs.Common.{min}
-use Rattle.std.proofs.Common.{inl, inr, ap, ap₂, arith, refl, slice_index, subst, sym, ◌∙◌}
+use Rattle.std.proofs.Common.{min, inl, inr, ap, ap₂, arith, refl, slice_index, subst, sym, ◌∙◌}
 use Rattle.std.proofs.lemmas.List.{get_or-drop, get_or_append_left, length-append, take-append-le}
 use Rattle.std.proofs.lemmas.List.{take_min}
 use Rattle.std.proofs.lemmas.Bool.{cases_lt}

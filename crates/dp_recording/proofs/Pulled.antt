@@ -14,8 +14,8 @@ use Rattle.dp_recording.specs.declared.header.Profile.{Profile}
 use Rattle.dp_recording.specs.declared.reader.Phase.{Phase}
 use Rattle.dp_recording.specs.declared.reader.Phase.TheVariants.{New, Failed}
 use Rattle.dp_recording.specs.declared.reader.RecError.{RecError}
-use Rattle.dp_recording.specs.declared.reader.RecError.TheVariants.{BadHeader, Truncated, Message}
-use Rattle.dp_recording.specs.declared.reader.RecError.TheVariants.{ReadFault, Long, Memory}
+use Rattle.dp_recording.specs.declared.reader.RecError.TheVariants.{BadHeader, Truncated}
+use Rattle.dp_recording.specs.declared.reader.RecError.TheVariants.{ReadFault, Memory}
 use Rattle.dp_recording.specs.Pulled.{AnswersAgain, BeginsReading, IsOfCall, PullsNext}
 use Rattle.dp_recording.specs.Pulled.{StopsEarly, StopsReading}
 use Rattle.dp_recording.specs.Recordings.{EndsEarly, EndsRecording, GoesOn, HasReadAfter}
@@ -43,13 +43,9 @@ reads-on profile input left now entries entry old new same going given h = (
 pub of-call : (now : Option (List ℕ)) (before after : ℕ) (end : ReadEnd DecodeError)
     → EndsWithInput now end → FaultMatchesReadEnd before after end
     → IsOfCall now before after (error_of end)
-of-call now before after read.ReadFault inside fault = record { inside = tt; fault = fault }
 of-call now before after (read.Truncated at) inside fault =
     record { inside = inside; fault = fault }
-of-call now before after (read.BadMessage why at) inside fault =
-    record { inside = tt; fault = fault }
-of-call now before after read.Long inside fault = record { inside = tt; fault = fault }
-of-call now before after read.Memory inside fault = record { inside = tt; fault = fault }
+of-call now before after _ inside fault = record { inside = tt; fault = fault }
 
 -- ---- the header
 
@@ -119,9 +115,7 @@ early-ends : (input : List ℕ) (left : Option (List ℕ)) (entries : List Entry
 early-ends input left entries BadHeader none ends = ((none, ends.0), inl ends.1)
 early-ends input left entries ReadFault none ends = inl ends
 early-ends input left entries Memory none ends = tt
-early-ends input left entries (Truncated at) none ends = absurd ends
-early-ends input left entries (Message at why) none ends = absurd ends
-early-ends input left entries Long none ends = absurd ends
+early-ends input left entries _ none ends = absurd ends
 
 -- it gives no entry then
 pub stops-early : (left now : Option (List ℕ)) (before after : ℕ) (new : Phase)

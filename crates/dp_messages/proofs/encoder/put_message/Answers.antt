@@ -1,6 +1,5 @@
-use Rattle.std.proofs.Common.{◌≡◌, ℕ, List, [], ◌∷◌, ◌++◌, length, ap, ◌∙◌, arith}
-use Rattle.std.proofs.Common.{◌+◌, ◌-◌, ◌/◌, ◌%◌}
-use Rattle.std.proofs.Common.{slice_set}
+use Rattle.std.proofs.Common.{◌≡◌, ℕ, List, [], ◌∷◌, ◌++◌, length, ap, ◌∙◌, arith, ◌+◌, ◌-◌, ◌/◌}
+use Rattle.std.proofs.Common.{◌%◌, slice_set}
 use Rattle.std.proofs.lemmas.List.{length-append}
 use Rattle.dp_messages.specs.Messages.{payload_of, kind_of}
 use Rattle.dp_messages.proofs.Headers.{header-set}

@@ -1,6 +1,5 @@
 use Rattle.std.proofs.Common.{◌≡◌, ◌≤◌, IsTrue, [], ◌++◌, ap, length, take, drop, arith, subst, sym}
-use Rattle.std.proofs.Common.{refl, Some}
-use Rattle.std.proofs.Common.{◌∙◌}
+use Rattle.std.proofs.Common.{refl, Some, ◌∙◌}
 use Rattle.std.proofs.lemmas.List.{length-take}
 use Rattle.dp_entries.specs.Reader.{HasRead}
 use Rattle.dp_recording.specs.Headers.{IsHeader}

@@ -14,40 +14,26 @@ draw_flagged-requires g c =
     (c.deref.ensures.value ∙ c.in_ok-kinds.ensures) (c.deref-2.ensures.value
     ∙ c.in_ok-flags.ensures))
 
-pub returns-clause-board : goal.returns-clause-board
-returns-clause-board g c =
-    c.in_ok-draw_flagged.ensures.board
-    ∙ ap
-    (λ (flags : List Bool). fold g.B.Board.drawn c.args.board
-    (commands (map user_act_of c.args.entries.now) flags))
-    (flags_of_acts c.commands_do_not_count.ensures 30 c.args.entries.now c.deref.result.now
-    c.deref-2.result.now
-    (c.deref.ensures.value ∙ c.in_ok-kinds.ensures) (c.deref-2.ensures.value
-    ∙ c.in_ok-flags.ensures))
-
-pub returns-clause-draws : goal.returns-clause-draws
-returns-clause-draws g c =
-    c.in_ok-draw_flagged.ensures.draws
-    ∙ ap
-    (λ (flags : List Bool). c.args.draws.now + length
-    (commands (map user_act_of c.args.entries.now) flags))
-    (flags_of_acts c.commands_do_not_count.ensures 30 c.args.entries.now c.deref.result.now
-    c.deref-2.result.now
-    (c.deref.ensures.value ∙ c.in_ok-kinds.ensures) (c.deref-2.ensures.value
-    ∙ c.in_ok-flags.ensures))
+pub returns : goal.returns
+returns g c =
+    let acts = map user_act_of c.args.entries.now in
+    let flagged = flags_of_acts c.commands_do_not_count.ensures 30 c.args.entries.now
+    c.deref.result.now c.deref-2.result.now (c.deref.ensures.value ∙ c.in_ok-kinds.ensures)
+    (c.deref-2.ensures.value ∙ c.in_ok-flags.ensures) in
+    record {
+      board = c.in_ok-draw_flagged.ensures.board
+          ∙ ap (λ (flags : List Bool). fold g.B.Board.drawn c.args.board (commands acts flags))
+          flagged;
+      draws = c.in_ok-draw_flagged.ensures.draws
+          ∙ ap (λ (flags : List Bool). c.args.draws.now + length (commands acts flags)) flagged;
+      counts =
+          subst (λ (flags : List Bool). CountsFew g.B.Board.weight (commands acts flags)
+          c.args.draws.now c.draw_flagged.new.draws c.args.tiles.now c.draw_flagged.new.tiles)
+          flagged c.draw_flagged.ensures.counts;
+    }
 
 pub returns-in_err-draw_flagged-clause-counts : goal.returns-in_err-draw_flagged-clause-counts
 returns-in_err-draw_flagged-clause-counts g c =
-    subst (λ (flags : List Bool). CountsFew g.B.Board.weight
-    (commands (map user_act_of c.args.entries.now) flags) c.args.draws.now
-    c.draw_flagged.new.draws c.args.tiles.now c.draw_flagged.new.tiles)
-    (flags_of_acts c.commands_do_not_count.ensures 30 c.args.entries.now c.deref.result.now
-    c.deref-2.result.now
-    (c.deref.ensures.value ∙ c.in_ok-kinds.ensures) (c.deref-2.ensures.value
-    ∙ c.in_ok-flags.ensures)) c.draw_flagged.ensures.counts
-
-pub returns-clause-counts : goal.returns-clause-counts
-returns-clause-counts g c =
     subst (λ (flags : List Bool). CountsFew g.B.Board.weight
     (commands (map user_act_of c.args.entries.now) flags) c.args.draws.now
     c.draw_flagged.new.draws c.args.tiles.now c.draw_flagged.new.tiles)

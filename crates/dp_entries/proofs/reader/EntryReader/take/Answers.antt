@@ -60,7 +60,8 @@ returns-in-Err-clause-stops g c = λ source left start entries h.
     } in
     let bad = refuses_first IsCause inside.count inside.splitter frame c.in-Err.why
     c.in-Some.ensures.fits c.in-Some.ensures.prefix c.in-Err.ensures.refused in
-    let read = subst (λ (r : Reader). ReadOn M source left start entries r) (sym c.self.view_is) h in
+    let read = subst (λ (r : Reader). ReadOn M source left start entries r) (sym c.self.view_is) h
+    in
     rw c.end_of_refusal.ensures
     (subst (λ (r : Reader). HaltsOn M IsCause r.limit source left start entries r.stream.held
     (refused_at (inside.first + c.at.result) c.in-Err.why)) c.self.view_is
