@@ -2,6 +2,7 @@
 """bench/gate.py run LOG [CMD ..]   runs the gate (`rt ci --anew`, or CMD) and writes to LOG what each of
                                  its processes took. An older kit, as rattle-kit-13b, has no --anew and
                                  proves all in each run: there CMD is `rt ci`
+bench/gate.py watch PID LOG      the same of a gate that runs already: of the process PID, until it ends
 bench/gate.py table LOG ..       prints the seconds of each crate, as a table for docs/
 bench/gate.py above CRATE LOG ..  prints what a change of this crate's proofs has proved again
 
@@ -17,7 +18,7 @@ import time
 
 TICK = os.sysconf("SC_CLK_TCK")
 TOOLS = ("rattle", "rattle-link", "rattle-test", "clang", "ld", "lld", "ld.lld")
-KINDS = ("proof", "tests", "seed", "edits", "other")
+KINDS = ("proof", "compiled", "tests", "seed", "edits", "other")
 
 
 def processes():
@@ -59,6 +60,8 @@ def task_of(pid, name):
     seed = next((it for it in words if "rt-edits-" in it), "")
     if "/rt-edit-" in where:
         return (crate, "seed" if seed.endswith("/seed") else "edits")
+    if "--crate-checked" in words:
+        return (crate, "compiled")
     return (crate, "tests" if "--test" in words else "proof")
 
 
@@ -96,26 +99,44 @@ def sample(top, tasks):
     walk(top)
 
 
-def run(log, words):
-    """Runs the gate, and writes a line for each process: crate, kind, begin, end, seconds, MB."""
+def follow(top, name, log, is_over):
+    """Samples what runs below the process `top` until `is_over` says so, and writes a line for each
+    process: crate, kind, begin, end, seconds, MB."""
     began, tasks = time.time(), {}
 
     def write(status):
         with open(log, "w", encoding="utf-8") as out:
-            out.write(f"# {' '.join(words)}: {time.time() - began:.0f} s, {status}\n")
+            out.write(f"# {name}: {time.time() - began:.0f} s, {status}\n")
             for crate, kind, begin, end, took, peak in tasks.values():
                 out.write(f"{crate} {kind} {begin - began:.0f} {end - began:.0f} {took:.1f} {peak}\n")
 
+    last = began
+    while is_over() is None:
+        sample(top, tasks)
+        if time.time() > last + 30:
+            last = time.time()
+            write("not ended")
+        time.sleep(1)
+    write(f"status {is_over()}")
+
+
+def run(log, words):
+    """Runs the gate, and follows it."""
     with subprocess.Popen(words) as gate:
-        last = began
-        while gate.poll() is None:
-            sample(gate.pid, tasks)
-            if time.time() > last + 30:
-                last = time.time()
-                write("not ended")
-            time.sleep(1)
-    write(f"status {gate.returncode}")
+        follow(gate.pid, " ".join(words), log, gate.poll)
     return gate.returncode
+
+
+def watch(pid, log):
+    """Follows a gate that runs already. Its status isn't seen."""
+    began = processes()[pid][2]
+
+    def is_over():
+        """Whether the process has ended: no other one has its number and its beginning."""
+        now = processes().get(pid)
+        return None if now and now[2] == began else "not seen"
+
+    follow(pid, f"process {pid}", log, is_over)
 
 
 def rows_of(logs):
@@ -150,17 +171,17 @@ def seconds_of(row):
 def table(logs):
     """Prints the seconds of a processor of each crate, by what was done."""
     rows = rows_of(logs)
-    print("| crate | proof, s | tests, s | proof again, s | edits, s (n) | all, s | GB |")
-    print("|---|---:|---:|---:|---:|---:|---:|")
+    print("| crate | proof, s | compiled, s | tests, s | proof again, s | edits, s (n) | all, s | GB |")
+    print("|---|---:|---:|---:|---:|---:|---:|---:|")
     show = lambda it: f"{it:.0f}" if it >= 0.5 else "-"
     names = [it for it in rows if it in listed()]
     for crate in sorted(names, key=lambda it: -seconds_of(rows[it])):
         row = rows[crate]
         edits = f"{show(row['edits'][1])} ({row['edits'][0]})" if row["edits"][0] else "-"
-        cells = [show(row[it][1]) for it in ("proof", "tests", "seed")]
+        cells = [show(row[it][1]) for it in ("proof", "compiled", "tests", "seed")]
         print(f"| {crate} | {' | '.join(cells)} | {edits} | {seconds_of(row):.0f} | {max(it[2] for it in row.values()) / 1024:.1f} |")
     sums = {kind: sum(rows[it][kind][1] for it in names) for kind in KINDS}
-    cells = [show(sums[it]) for it in ("proof", "tests", "seed", "edits")]
+    cells = [show(sums[it]) for it in ("proof", "compiled", "tests", "seed", "edits")]
     print(f"| all | {' | '.join(cells)} | {sum(sums.values()):.0f} | |")
 
 
@@ -176,6 +197,8 @@ def above(crate, logs):
 if __name__ == "__main__":
     if len(sys.argv) >= 3 and sys.argv[1] == "run":
         sys.exit(run(sys.argv[2], sys.argv[3:] or ["rt", "ci", "--anew"]))
+    if len(sys.argv) == 4 and sys.argv[1] == "watch":
+        sys.exit(watch(int(sys.argv[2]), sys.argv[3]))
     if len(sys.argv) >= 3 and sys.argv[1] == "table":
         sys.exit(table(sys.argv[2:]))
     if len(sys.argv) >= 4 and sys.argv[1] == "above":

@@ -48,15 +48,31 @@ fn refusal(error: Error) -> KeepError {
 
 /// Opens the file, or makes it, with the table.
 fn open(rt: &HostRuntime, path: &str) -> Result<Connection<FileStore<File>>, Error> {
-    let mut conn = Connection::open(rt, path)?;
-    conn.execute_batch(TABLE)?;
+    let mut conn = connect(rt, path)?;
+    make_table(&mut conn)?;
     Ok(conn)
+}
+
+/// Opens the file, or makes it. No clause says more, so that no caller's proof carries what sqlite
+/// says; so it is with the calls below.
+fn connect(rt: &HostRuntime, path: &str) -> Result<Connection<FileStore<File>>, Error> {
+    Connection::open(rt, path)
+}
+
+/// Makes the table, if there is none.
+fn make_table(conn: &mut Connection<FileStore<File>>) -> Result<(), Error> {
+    conn.execute_batch(TABLE)
+}
+
+/// A statement of this text.
+fn prepare(conn: &mut Connection<FileStore<File>>, text: &str) -> Result<Statement, Error> {
+    conn.prepare(text)
 }
 
 /// The statements that add a row and read rows.
 fn statements(conn: &mut Connection<FileStore<File>>) -> Result<(Statement, Statement), Error> {
-    let insert = conn.prepare(INSERT)?;
-    let select = conn.prepare(SELECT)?;
+    let insert = prepare(conn, INSERT)?;
+    let select = prepare(conn, SELECT)?;
     Ok((insert, select))
 }
 

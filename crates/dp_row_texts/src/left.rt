@@ -57,13 +57,24 @@ pub fn keeper_of(
     reads: Vec<u64>,
     puts: &[u64],
 ) -> Result<MemKeeper, AllocError> {
+    let lost = lost_puts(alloc, puts)?;
+    let rows = rows_of(alloc, kept)?;
+    Ok(MemKeeper::new(rows, lost, reads))
+}
+
+/// Rows of these bytes.
+fn rows_of(alloc: Global, kept: &[Vec<u8>]) -> Result<Rows, AllocError> {
     let mut rows = Rows::new(alloc);
     for (n, bytes) in kept.iter().enumerate() {
-        let bytes = RowBytes::from_vec(Vec::from_slice(alloc, bytes)?);
-        rows.push(Row { n: n as u64, bytes })?;
+        rows.push(row_of(alloc, n as u64, bytes)?)?;
     }
-    let lost = lost_puts(alloc, puts)?;
-    Ok(MemKeeper::new(rows, lost, reads))
+    Ok(rows)
+}
+
+/// The row of a number, of these bytes.
+fn row_of(alloc: Global, n: u64, bytes: &[u8]) -> Result<Row, AllocError> {
+    let bytes = RowBytes::from_vec(Vec::from_slice(alloc, bytes)?);
+    Ok(Row { n, bytes })
 }
 
 /// The puts that fail and lose their rows.

@@ -33,4 +33,4 @@ pub use row::{Part, Row};
 pub use source::RowSource;
 pub use tables::{Does, Step, Table};
 pub use trials::{Trial, trials_of};
-pub use wires::{LinkFails, RowWire, RowWires, sent_on, wires_of};
+pub use wires::{LinkFails, RowWire, RowWires, put_sent_on, wires_of};

@@ -44,17 +44,23 @@ pub fn read_word(alloc: Global, names: &Names<'_>, word: &str) -> Result<Option<
 fn put_digits(alloc: Global, text: &str, out: &mut Vec<u8>) -> Result<bool, AllocError> {
     for word in text.split(' ') {
         let (times, digits) = counted(word);
-        let Some(bytes) = hex_of(alloc, digits.as_bytes())? else {
-            return Ok(false);
-        };
         if times == 0 {
             return Ok(false);
         }
-        for _ in 0..times {
-            out.extend_from_slice(&bytes)?;
-        }
+        let Some(bytes) = hex_of(alloc, digits.as_bytes())? else {
+            return Ok(false);
+        };
+        put_times(times, &bytes, out)?;
     }
     Ok(true)
+}
+
+/// Adds bytes so often.
+pub fn put_times(times: u64, bytes: &[u8], out: &mut Vec<u8>) -> Result<(), AllocError> {
+    for _ in 0..times {
+        out.extend_from_slice(bytes)?;
+    }
+    Ok(())
 }
 
 /// Adds what a word stands for.

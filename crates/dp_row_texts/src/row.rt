@@ -3,6 +3,7 @@
 use crate::fails::{Fail, Object};
 use crate::links::Coming;
 use crate::tables::Table;
+use std::alloc::{AllocError, Global};
 
 /// Bytes that stand in an input so often.
 #[derive(Drop)]
@@ -31,4 +32,22 @@ pub struct Row {
     pub kept: Vec<Vec<u8>>,
     /// What damaged links are to give.
     pub table: Table,
+}
+
+impl Row {
+    /// A row that begins with this line, before its words were read.
+    pub fn new(alloc: Global, head: &str) -> Result<Row, AllocError> {
+        Ok(Row {
+            head: String::from_str(alloc, head)?,
+            words: Vec::new(alloc),
+            pieces: Vec::new(alloc),
+            room: 20_000,
+            fails: Vec::new(alloc),
+            each: Vec::new(alloc),
+            input: Vec::new(alloc),
+            wires: Vec::new(alloc),
+            kept: Vec::new(alloc),
+            table: Table::new(alloc),
+        })
+    }
 }
