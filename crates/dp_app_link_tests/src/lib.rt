@@ -8,3 +8,5 @@ mod held;
 mod pictures;
 #[cfg(test)]
 mod together;
+#[cfg(test)]
+mod wires;

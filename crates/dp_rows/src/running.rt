@@ -3,8 +3,7 @@
 
 ghost use Rattle.std.specs.Prelude.{◌≤◌};
 
-use dp_app::Outcome;
-use dp_app_runs::{Host, Resources, outcome_over};
+use dp_app_runs::{Host, Left, Resources, outcome_over};
 use dp_io::MemSink;
 use dp_keeper::MemKeeper;
 use dp_row_texts::{
@@ -74,7 +73,7 @@ fn put_run<R: Threads + Wait + Sync>(
         alloc,
         gate: &gate,
     };
-    let outcome = outcome_over(
+    let left = outcome_over(
         host,
         words,
         &mut streams.input,
@@ -82,25 +81,25 @@ fn put_run<R: Threads + Wait + Sync>(
         &mut streams.diag,
         Resources { wires, keeper },
     );
-    answer.status = outcome.status;
+    answer.status = left.status;
     let ends = (gate.passes(), sent.gave_up());
-    put_left(alloc, &outcome, &streams, ends, answer)
+    put_left(alloc, &left, &streams, ends, answer)
 }
 
 /// Puts what a run left into an answer. Then how often the gate was passed, and a line if a pause
 /// was given up.
 fn put_left(
     alloc: Global,
-    outcome: &Outcome<RowWire, MemKeeper>,
+    left: &Left<RowWire, MemKeeper>,
     streams: &Streams<'_>,
     (passes, gave_up): (u64, u64),
     answer: &mut Answer,
 ) -> Result<(), AllocError> {
     answer.output.extend_from_slice(streams.output.as_slice())?;
     answer.said.extend_from_slice(streams.diag.as_slice())?;
-    put_sent_on(&outcome.wires, &mut answer.sent)?;
-    put_reports(alloc, outcome, &mut answer.left)?;
-    put_kept(&outcome.keeper, &mut answer.left)?;
+    put_sent_on(&left.wires, &mut answer.sent)?;
+    put_reports(alloc, left, &mut answer.left)?;
+    put_kept(&left.keeper, &mut answer.left)?;
     put_passes(passes, &mut answer.left)?;
     if gave_up > 0 {
         put_parts(&[b"a pause was given up\n"], &mut answer.left)?;
@@ -111,11 +110,11 @@ fn put_left(
 /// Adds a line for each link of a server.
 fn put_reports(
     alloc: Global,
-    outcome: &Outcome<RowWire, MemKeeper>,
+    left: &Left<RowWire, MemKeeper>,
     text: &mut Vec<u8>,
 ) -> Result<(), AllocError> {
-    for k in 0..outcome.reports.len() {
-        if let Some(report) = outcome.reports.get(k) {
+    for k in 0..left.reports.len() {
+        if let Some(report) = left.reports.get(k) {
             let told = Told {
                 worker: report.worker,
                 link: report.link,
