@@ -8,8 +8,9 @@ bench/gate.py above CRATE LOG ..  prints what a change of this crate's proofs ha
 
 The gate prints no times. So each second the processes below it are read from /proc: the processor
 time of each prover with the copies of itself that it forked, and the most memory that one of them
-held. What a process did after its last sample, up to a second, isn't counted. Give the name of the
-machine and the commit beside the table."""
+held. What a process did after its last sample, up to a second, isn't counted. The time of clang is
+in that of the process which runs it, and is told once more. Give the name of the machine and the
+commit beside the table."""
 import os
 import re
 import subprocess
@@ -80,6 +81,12 @@ def sample(top, tasks):
             time_of, peak = time_of + took, max(peak, held)
         return time_of, peak
 
+    def note(key, task, pid):
+        """Adds what a process took to its task."""
+        took, peak = whole(pid)
+        old = tasks.setdefault(key, [*task, time.time(), 0, 0, 0])
+        tasks[key] = [*old[:3], time.time(), max(old[4], took), max(old[5], peak)]
+
     def walk(pid):
         for it in children.get(pid, []):
             _, name, began, _ = all_of[it]
@@ -90,9 +97,10 @@ def sample(top, tasks):
                     if task is None:
                         continue
                     tasks[key] = [*task, time.time(), 0, 0, 0]
-                took, peak = whole(it)
-                old = tasks[key]
-                tasks[key] = [*old[:3], time.time(), max(old[4], took), max(old[5], peak)]
+                note(key, tasks[key][:2], it)
+                for below in children.get(it, []):
+                    if all_of[below][1] == "clang":
+                        note((below, all_of[below][2]), (tasks[key][0], "clang"), below)
             else:
                 walk(it)
 
@@ -152,7 +160,7 @@ def rows_of(logs):
             number, seconds, most = found.get((crate, kind), (0, 0.0, 0))
             found[crate, kind] = number + 1, seconds + float(took), max(most, int(peak))
         for (crate, kind), told in found.items():
-            rows.setdefault(crate, {it: (0, 0.0, 0) for it in KINDS})[kind] = told
+            rows.setdefault(crate, {it: (0, 0.0, 0) for it in (*KINDS, "clang")})[kind] = told
     return rows
 
 
@@ -171,18 +179,20 @@ def seconds_of(row):
 def table(logs):
     """Prints the seconds of a processor of each crate, by what was done."""
     rows = rows_of(logs)
-    print("| crate | proof, s | compiled, s | tests, s | proof again, s | edits, s (n) | all, s | GB |")
-    print("|---|---:|---:|---:|---:|---:|---:|---:|")
+    heads = ("proof", "compiled", "tests", "of it clang", "proof again")
+    print(f"| crate | {', s | '.join(heads)}, s | edits, s (n) | all, s | GB |")
+    print("|---|---:|---:|---:|---:|---:|---:|---:|---:|")
     show = lambda it: f"{it:.0f}" if it >= 0.5 else "-"
     names = [it for it in rows if it in listed()]
     for crate in sorted(names, key=lambda it: -seconds_of(rows[it])):
         row = rows[crate]
         edits = f"{show(row['edits'][1])} ({row['edits'][0]})" if row["edits"][0] else "-"
-        cells = [show(row[it][1]) for it in ("proof", "compiled", "tests", "seed")]
+        cells = [show(row[it][1]) for it in ("proof", "compiled", "tests", "clang", "seed")]
         print(f"| {crate} | {' | '.join(cells)} | {edits} | {seconds_of(row):.0f} | {max(it[2] for it in row.values()) / 1024:.1f} |")
     sums = {kind: sum(rows[it][kind][1] for it in names) for kind in KINDS}
-    cells = [show(sums[it]) for it in ("proof", "compiled", "tests", "seed", "edits")]
-    print(f"| all | {' | '.join(cells)} | {sum(sums.values()):.0f} | |")
+    sums["clang"] = sum(rows[it]["clang"][1] for it in names)
+    cells = [show(sums[it]) for it in ("proof", "compiled", "tests", "clang", "seed", "edits")]
+    print(f"| all | {' | '.join(cells)} | {sum(sums[it] for it in KINDS):.0f} | |")
 
 
 def above(crate, logs):
