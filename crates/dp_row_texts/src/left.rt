@@ -1,5 +1,6 @@
 //! What a server leaves.
 
+use crate::gate::RowGate;
 use crate::printing::{put_numbered, put_parts};
 use dp_keeper::{MemKeeper, Row, RowBytes, Rows};
 use dp_lines::put_hex;
@@ -37,6 +38,15 @@ pub fn put_kept(keeper: &MemKeeper, out: &mut Vec<u8>) -> Result<(), AllocError>
         out.extend_from_slice(b"kept ")?;
         put_hex(row.bytes.as_slice(), out)?;
         out.push(b'\n')?;
+    }
+    Ok(())
+}
+
+/// Adds how often the gate was passed, if it was, and a line if it held a job in vain.
+pub fn put_gate(gate: &RowGate, out: &mut Vec<u8>) -> Result<(), AllocError> {
+    put_passes(gate.passes(), out)?;
+    if gate.gave_up() {
+        put_parts(&[b"a job was held in vain\n"], out)?;
     }
     Ok(())
 }

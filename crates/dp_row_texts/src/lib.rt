@@ -25,7 +25,7 @@ pub use answer::Answer;
 pub use ends::{RowRx, RowTx, Sent};
 pub use fails::{Fail, Object};
 pub use gate::RowGate;
-pub use left::{Told, keeper_of, put_kept, put_passes, put_told};
+pub use left::{Told, keeper_of, put_gate, put_kept, put_told};
 pub use links::{Coming, Pause};
 pub use printing::{put_answer, put_bad_row, put_numbered, put_parts, put_text};
 pub use reading::{Rows, read_rows};

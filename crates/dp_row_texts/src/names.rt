@@ -13,10 +13,12 @@ pub struct Names<'a> {
 impl<'a> Names<'a> {
     /// What the word stands for: the text of its name, or itself.
     pub fn text<'b>(&'b self, word: &'b str) -> &'b str {
-        match self.pairs.iter().rev().find(|pair| pair.0 == word) {
-            Some(pair) => pair.1,
-            None => word,
+        for pair in self.pairs.iter().rev() {
+            if pair.0 == word {
+                return pair.1;
+            }
         }
+        word
     }
 }
 

@@ -84,6 +84,10 @@ fn read_head_word(alloc: Global, row: &mut Row, word: &str) -> Result<bool, Allo
             row.room = value.parse::<u64>().unwrap_or(0);
             Ok(row.room > 0)
         }
+        Some(("hold", value)) => {
+            row.hold = value.parse::<u32>().ok();
+            Ok(row.hold.is_some())
+        }
         Some(("each", value)) => match Object::of(value) {
             Some(object) => {
                 row.each.push(object)?;

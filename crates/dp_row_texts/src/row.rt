@@ -22,6 +22,8 @@ pub struct Row {
     pub pieces: Vec<u64>,
     /// How many bytes the output takes.
     pub room: u64,
+    /// The job that has to pass the gate before job 0 does, if there is one.
+    pub hold: Option<u32>,
     pub fails: Vec<Fail>,
     /// The objects of which each call is to fail in turn.
     pub each: Vec<Object>,
@@ -42,6 +44,7 @@ impl Row {
             words: Vec::new(alloc),
             pieces: Vec::new(alloc),
             room: 20_000,
+            hold: None,
             fails: Vec::new(alloc),
             each: Vec::new(alloc),
             input: Vec::new(alloc),

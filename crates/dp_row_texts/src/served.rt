@@ -263,10 +263,13 @@ fn talk_of<'a>(
     let end = end_of(alloc, frames, damage)?;
     let mut said = said_of(alloc, frames, placed, count)?;
     put_said(damage, &mut said)?;
-    let leave = placed.last().map(|frames| frames.as_slice());
+    let leave = match placed.last() {
+        Some(frames) => frames.as_slice(),
+        None => &[],
+    };
     Ok(Talk {
         said,
-        leave: leave.unwrap_or(&[]),
+        leave,
         end,
         room,
     })
@@ -370,10 +373,12 @@ fn whole_talk<'a>(
 
 /// The bytes of the link that is whole: the last one.
 fn whole_link(alloc: Global, wires: &[Vec<Coming>]) -> Result<Vec<u8>, AllocError> {
-    match wires.last().and_then(|links| links.last()) {
-        Some(link) => Vec::from_slice(alloc, &link.bytes),
-        None => Ok(Vec::new(alloc)),
+    if let Some(links) = wires.last() {
+        if let Some(link) = links.last() {
+            return Vec::from_slice(alloc, &link.bytes);
+        }
     }
+    Ok(Vec::new(alloc))
 }
 
 impl Past {
@@ -419,8 +424,9 @@ impl Past {
         answer: &mut Answer,
     ) -> Result<(), AllocError> {
         let one = self.serve(alloc, one)?;
-        let hello = two.said.first().map_or(0, |hello| hello.frame.len());
-        put_pause(wires, 1, hello, self.sent_len(greeted))?;
+        if let Some(hello) = two.said.first() {
+            put_pause(wires, 1, hello.frame.len(), self.sent_len(greeted))?;
+        }
         self.serve_rest(alloc, &one, two, greeted, answer)
     }
 

@@ -19,14 +19,14 @@ pub struct Trial {
 /// The trials of a row in pieces of this length; there are none if it has no table or no link.
 pub fn trials_of(alloc: Global, row: &Row, piece: usize) -> Result<Vec<Trial>, AllocError> {
     let mut trials = Vec::new(alloc);
-    let link = row.wires.first().and_then(|links| links.first());
-    let Some(link) = link else {
-        return Ok(trials);
-    };
     if row.table.is_empty() {
         return Ok(trials);
     }
-    put_trials(alloc, row, link, piece.max(1), &mut trials)?;
+    if let Some(links) = row.wires.first() {
+        if let Some(link) = links.first() {
+            put_trials(alloc, row, link, piece.max(1), &mut trials)?;
+        }
+    }
     Ok(trials)
 }
 

@@ -9,6 +9,7 @@
 //!   and `room=N` how much the output takes. `input=2,7`, `output=..`, `diag=..`, `dial=..`,
 //!   `receive=..`, `send=..`, `rows=..` and `put=..` have the calls with these numbers fail,
 //!   counted from 1. `each=send` runs the row again with each call of that object failing in turn.
+//!   `hold=N` holds job 0 at the gate until job N has passed it, or for a number of turns.
 //! - `x WORDS`: bytes of the row's input, in words of hexadecimal, and `N*WORD` as above.
 //! - `wire` begins a further wire, and `link WORDS` has the bytes of a link to come. Among its
 //!   words `read=3` and `write=..` have these calls on that link fail. `@1:40` is a pause: the
@@ -25,7 +26,7 @@
 //! For each row it prints its first line, the status, the output, the line on diag after `! `, and
 //! what was sent on each link after `sent `. Of a server it prints a line for each link, and each
 //! row of the store after `kept `. `passed N` says how often the gate was passed, if it was: by a
-//! server's workers, or by jobs of `play` and `drill`. A picture of bytes is printed as its head
+//! server's workers, or by jobs of `play` and `drill`. A line says if job 0 was held in vain. A picture of bytes is printed as its head
 //! and its pixels, each with how often it stands there. A backslash ends a text that has no newline
 //! at its end. What a length of pieces gives otherwise than the first one follows after `differs`.
 //! If there is a table, the row runs again with the first link cut after each byte. It runs with

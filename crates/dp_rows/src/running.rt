@@ -7,8 +7,8 @@ use dp_app_runs::{Host, Left, Resources, outcome_over};
 use dp_io::MemSink;
 use dp_keeper::MemKeeper;
 use dp_row_texts::{
-    Answer, Coming, Fail, LinkFails, Object, Row, RowGate, RowSource, RowWire, RowWires, Told,
-    keeper_of, put_kept, put_parts, put_passes, put_sent_on, put_told, wires_of,
+    Answer, Coming, Fail, LinkFails, Object, Row, RowGate, RowSource, RowWire, RowWires, Sent,
+    Told, keeper_of, put_gate, put_kept, put_parts, put_sent_on, put_told, wires_of,
 };
 use std::alloc::{AllocError, Global};
 use std::sync::Wait;
@@ -53,21 +53,21 @@ fn put_answer_to<R: Threads + Wait + Sync>(
     let streams = streams_of(alloc, tried)?;
     let keeper = store_of(alloc, tried)?;
     let wires = wires_over(alloc, tried, links)?;
-    put_run(rt, alloc, &tried.row.words, streams, wires, keeper, answer)
+    put_run(rt, alloc, tried.row, streams, wires, keeper, answer)
 }
 
-/// Runs words over these, and puts what that gives into an answer.
+/// Runs a row over these, and puts what that gives into an answer.
 fn put_run<R: Threads + Wait + Sync>(
     rt: &R,
     alloc: Global,
-    words: &[String],
+    row: &Row,
     mut streams: Streams<'_>,
     wires: RowWires,
     keeper: MemKeeper,
     answer: &mut Answer,
 ) -> Result<(), AllocError> {
     let RowWires { wires, sent } = wires;
-    let gate = RowGate::new();
+    let gate = RowGate::new(row.hold);
     let host = Host {
         rt,
         alloc,
@@ -75,24 +75,23 @@ fn put_run<R: Threads + Wait + Sync>(
     };
     let left = outcome_over(
         host,
-        words,
+        &row.words,
         &mut streams.input,
         &mut streams.output,
         &mut streams.diag,
         Resources { wires, keeper },
     );
     answer.status = left.status;
-    let ends = (gate.passes(), sent.gave_up());
-    put_left(alloc, &left, &streams, ends, answer)
+    put_left(alloc, &left, &streams, &gate, &sent, answer)
 }
 
-/// Puts what a run left into an answer. Then how often the gate was passed, and a line if a pause
-/// was given up.
+/// Puts what a run left into an answer, also of the gate. Then a line if a pause was given up.
 fn put_left(
     alloc: Global,
     left: &Left<RowWire, MemKeeper>,
     streams: &Streams<'_>,
-    (passes, gave_up): (u64, u64),
+    gate: &RowGate,
+    sent: &Sent,
     answer: &mut Answer,
 ) -> Result<(), AllocError> {
     answer.output.extend_from_slice(streams.output.as_slice())?;
@@ -100,8 +99,8 @@ fn put_left(
     put_sent_on(&left.wires, &mut answer.sent)?;
     put_reports(alloc, left, &mut answer.left)?;
     put_kept(&left.keeper, &mut answer.left)?;
-    put_passes(passes, &mut answer.left)?;
-    if gave_up > 0 {
+    put_gate(gate, &mut answer.left)?;
+    if sent.gave_up() > 0 {
         put_parts(&[b"a pause was given up\n"], &mut answer.left)?;
     }
     Ok(())
