@@ -26,13 +26,14 @@
 //! For each row it prints its first line, the status, the output, the line on diag after `! `, and
 //! what was sent on each link after `sent `. Of a server it prints a line for each link, and each
 //! row of the store after `kept `. `passed N` says how often the gate was passed, if it was: by a
-//! server's workers, or by jobs of `play` and `drill`. A line says if job 0 was held in vain. A picture of bytes is printed as its head
-//! and its pixels, each with how often it stands there. A backslash ends a text that has no newline
-//! at its end. What a length of pieces gives otherwise than the first one follows after `differs`.
-//! If there is a table, the row runs again with the first link cut after each byte. It runs with
-//! each of its frames replaced, and with each of its reads and writes failing. If two wires have a
-//! link each, the second link is open before the damaged one begins and until that is over. `tried`
-//! says how many runs there were, and `differs` if one gave something else than is due.
+//! server's workers, or by jobs of `play` and `drill`. A line says if job 0 was held in vain. A
+//! picture of bytes is printed as its head and its pixels, each with how often it stands there. A
+//! backslash ends a text that has no newline at its end. What a length of pieces gives otherwise
+//! than the first one follows after `differs`. If there is a table, the row runs again with the
+//! first link cut after each byte. It runs with each of its frames replaced, and with each of its
+//! reads and writes failing. If two wires have a link each, the second link is open before the
+//! damaged one begins and until that is over. `tried` says how many runs there were, and `differs`
+//! if one gave something else than is due.
 #![tactic(auto)]
 
 mod each;
