@@ -3,7 +3,7 @@
 ghost use Rattle.std.specs.Prelude.{◌≡◌, IfOk, None};
 
 use dp_keeper::{KeepError, Keeper, Row, RowBytes, Rows};
-use sqlite::{Connection, Error, ErrorCode, File, FileStore, Statement, params};
+use sqlite::{Alter, Connection, Error, ErrorCode, File, FileStore, Statement, params};
 use std::alloc::Global;
 use std::marker::Model;
 
@@ -54,26 +54,46 @@ fn open(rt: &HostRuntime, path: &str) -> Result<Connection<FileStore<File>>, Err
 }
 
 /// Opens the file, or makes it. No clause says more, so that no caller's proof carries what sqlite
-/// says; so it is with the calls below.
+/// says. So it is with the calls below, which know nothing of the files under a connection.
 fn connect(rt: &HostRuntime, path: &str) -> Result<Connection<FileStore<File>>, Error> {
     Connection::open(rt, path)
 }
 
 /// Makes the table, if there is none.
-fn make_table(conn: &mut Connection<FileStore<File>>) -> Result<(), Error> {
+fn make_table<S: Alter>(conn: &mut Connection<S>) -> Result<(), Error> {
     conn.execute_batch(TABLE)
 }
 
 /// A statement of this text.
-fn prepare(conn: &mut Connection<FileStore<File>>, text: &str) -> Result<Statement, Error> {
+fn prepare<S: Alter>(conn: &mut Connection<S>, text: &str) -> Result<Statement, Error> {
     conn.prepare(text)
 }
 
 /// The statements that add a row and read rows.
-fn statements(conn: &mut Connection<FileStore<File>>) -> Result<(Statement, Statement), Error> {
+fn statements<S: Alter>(conn: &mut Connection<S>) -> Result<(Statement, Statement), Error> {
     let insert = prepare(conn, INSERT)?;
     let select = prepare(conn, SELECT)?;
     Ok((insert, select))
+}
+
+/// Adds a row by the statement that adds one.
+fn add<S: Alter>(
+    statement: &Statement,
+    conn: &mut Connection<S>,
+    n: i64,
+    bytes: &[u8],
+) -> Result<usize, Error> {
+    statement.execute(conn, params![n, bytes])
+}
+
+/// The rows that the statement reads.
+fn find<S: Alter>(
+    statement: &Statement,
+    conn: &mut Connection<S>,
+    from: i64,
+    max: u32,
+) -> Result<Vec<sqlite::Row>, Error> {
+    statement.query_all(conn, params![from, max])
 }
 
 /// A row of the table. A number below 0 is no row's, and is read as the greatest number.
@@ -137,9 +157,7 @@ impl SqlKeeper {
         let Ok(n) = i64::try_from(row.n) else {
             return Err(KeepError::Failed);
         };
-        let added = self
-            .insert
-            .execute(&mut self.conn, params![n, row.bytes.as_slice()]);
+        let added = add(&self.insert, &mut self.conn, n, row.bytes.as_slice());
         match added {
             Ok(_) => Ok(()),
             Err(error) => Err(refusal(error)),
@@ -151,7 +169,7 @@ impl SqlKeeper {
         ensures { self.new ≡ self.old }
     {
         let alloc = self.alloc;
-        let found = self.select.query_all(&mut self.conn, params![from, max]);
+        let found = find(&self.select, &mut self.conn, from, max);
         match found {
             Ok(found) => rows_of(alloc, &found).map_err(|error| refusal(error)),
             Err(error) => Err(refusal(error)),
