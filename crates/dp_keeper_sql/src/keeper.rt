@@ -46,15 +46,9 @@ fn refusal(error: Error) -> KeepError {
     }
 }
 
-/// Opens the file, or makes it, with the table.
-fn open(rt: &HostRuntime, path: &str) -> Result<Connection<FileStore<File>>, Error> {
-    let mut conn = connect(rt, path)?;
-    make_table(&mut conn)?;
-    Ok(conn)
-}
-
 /// Opens the file, or makes it. No clause says more, so that no caller's proof carries what sqlite
-/// says. So it is with the calls below, which know nothing of the files under a connection.
+/// says. So it is with the calls below. They are for any store, as it costs each call of them much
+/// to show that the files are one.
 fn connect(rt: &HostRuntime, path: &str) -> Result<Connection<FileStore<File>>, Error> {
     Connection::open(rt, path)
 }
@@ -69,8 +63,9 @@ fn prepare<S: Alter>(conn: &mut Connection<S>, text: &str) -> Result<Statement, 
     conn.prepare(text)
 }
 
-/// The statements that add a row and read rows.
-fn statements<S: Alter>(conn: &mut Connection<S>) -> Result<(Statement, Statement), Error> {
+/// Makes the table. Gives the statements that add a row and read rows.
+fn set_up<S: Alter>(conn: &mut Connection<S>) -> Result<(Statement, Statement), Error> {
+    make_table(conn)?;
     let insert = prepare(conn, INSERT)?;
     let select = prepare(conn, SELECT)?;
     Ok((insert, select))
@@ -125,8 +120,7 @@ impl SqlKeeper {
     pub fn new(rt: &HostRuntime, path: &str) -> Result<SqlKeeper, KeepError>
         ensures { IfOk result (λ keeper. keeper ≡ record { puts = 0; readings = 0 }) }
     {
-        let opened = open(rt, path);
-        match opened {
+        match connect(rt, path) {
             Ok(conn) => SqlKeeper::over(rt.alloc(), conn),
             Err(error) => Err(refusal(error)),
         }
@@ -137,7 +131,7 @@ impl SqlKeeper {
         ensures { IfOk result (λ keeper. keeper ≡ record { puts = 0; readings = 0 }) }
     {
         let mut conn = conn;
-        match statements(&mut conn) {
+        match set_up(&mut conn) {
             Ok((insert, select)) => Ok(SqlKeeper {
                 conn,
                 insert,
