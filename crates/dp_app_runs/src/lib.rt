@@ -4,4 +4,4 @@
 mod running;
 
 pub use dp_commands::{Host, Resources};
-pub use running::{Faults, NO_FAULTS, Ran, outcome_of, outcome_over, run, words_of};
+pub use running::{Left, outcome_of, outcome_over, words_of};

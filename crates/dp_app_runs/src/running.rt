@@ -1,81 +1,27 @@
-//! Runs of the program over sources and sinks in memory.
+//! Runs of the program on given sources, sinks, wires and stores.
 
 ghost use Rattle.std.specs.Prelude.{◌≡◌, ◌<◌};
 
 use dp_app::{Outcome, drawpile};
 use dp_commands::{Host, Resources};
-use dp_io::{MemSink, MemSource, Sink, Source};
+use dp_io::{Sink, Source};
 use dp_keeper::{Keeper, Rows, SureKeeper};
+use dp_serve::Reports;
 use dp_steps::Steps;
-use dp_wire::{Gate, MemWire, OpenGate, Wire};
+use dp_wire::{Gate, OpenGate, Wire};
 use std::alloc::{AllocError, Global};
 use std::marker::Brand;
 use std::sync::Wait;
 use std::sync::ledger::{Blank, Ledger};
 use std::thread::Threads;
 
-/// The calls that fail, by their numbers from 1, of a run's input, output and diag.
-#[derive(Clone, Copy)]
-pub struct Faults<'a> {
-    pub input: &'a [u64],
-    pub output: &'a [u64],
-    pub diag: &'a [u64],
-}
-
-pub const NO_FAULTS: Faults<'static> = Faults {
-    input: &[],
-    output: &[],
-    diag: &[],
-};
-
-/// What a run leaves.
+/// What a run leaves, but for what a server kept of events and of refused closings.
 #[derive(Drop)]
-pub struct Ran {
+pub struct Left<W, K> {
     pub status: u8,
-    pub output: MemSink,
-    pub diag: MemSink,
-}
-
-/// Runs words on the input in pieces of this length, and writes in pieces of this length. A length
-/// of 0 counts as 1.
-pub fn run<R: Threads + Wait + Sync>(
-    rt: &R,
-    alloc: Global,
-    words: &str,
-    input: &[u8],
-    piece: usize,
-    faults: Faults<'_>,
-) -> Result<Ran, AllocError> {
-    let piece = piece.max(1);
-    let words = words_of(alloc, words)?;
-    let mut source = MemSource::new(
-        Vec::from_slice(alloc, input)?,
-        piece,
-        Vec::from_slice(alloc, faults.input)?,
-    );
-    let mut output = MemSink::new(
-        alloc,
-        320_000,
-        piece,
-        Vec::from_slice(alloc, faults.output)?,
-    )?;
-    let mut diag = MemSink::new(alloc, 1000, piece, Vec::from_slice(alloc, faults.diag)?)?;
-    let wires: Vec<MemWire> = Vec::new(alloc);
-    let outcome = outcome_of(
-        rt,
-        alloc,
-        &words,
-        &mut source,
-        &mut output,
-        &mut diag,
-        wires,
-    );
-    let status = outcome.status;
-    Ok(Ran {
-        status,
-        output,
-        diag,
-    })
+    pub wires: Vec<W>,
+    pub keeper: K,
+    pub reports: Reports,
 }
 
 /// The words of a text.
@@ -96,7 +42,7 @@ pub fn outcome_of<R: Threads + Wait + Sync, I: Source, O: Sink, E: Sink, W: Wire
     output: &mut O,
     diag: &mut E,
     wires: Vec<W>,
-) -> Outcome<W, SureKeeper> {
+) -> Left<W, SureKeeper> {
     let keeper = SureKeeper::new(Rows::new(alloc));
     let gate = &OpenGate;
     let host = Host { rt, alloc, gate };
@@ -126,8 +72,23 @@ pub fn outcome_over<
     output: &mut O,
     diag: &mut E,
     resources: Resources<W, K>,
-) -> Outcome<W, K> {
-    branded(host, words, input, output, diag, resources)
+) -> Left<W, K> {
+    let Outcome {
+        status,
+        wires,
+        keeper,
+        journal,
+        shut,
+        reports,
+    } = branded(host, words, input, output, diag, resources);
+    drop(journal);
+    drop(shut);
+    Left {
+        status,
+        wires,
+        keeper,
+        reports,
+    }
 }
 
 /// Runs the program with new counters.

@@ -1,7 +1,6 @@
 //! Links over TCP, on the loopback.
 
 use dp_io::{Failed, Sink, Source};
-use dp_sockets::wires_for;
 use dp_wire::{TcpRx, TcpTx, TcpWire, Wire, WireError};
 use std::alloc::Global;
 use std::io::ErrorKind;
@@ -79,42 +78,6 @@ fn bytes_go_both_ways(rt: HostRuntime) {
     assert_eq!(rt; near_rx.read(&mut buf), Ok(4));
     assert_eq!(rt; &buf[..4], b"ping".as_slice());
     assert_eq!(rt; near_rx.read(&mut buf), Ok(0), "the other end is done");
-}
-
-/// The wires for these words, which are separated by spaces.
-fn wires_of<N: Net<Listener = TcpListener, Stream = TcpStream> + Copy + Drop + Abort>(
-    rt: &N,
-    alloc: Global,
-    text: &str,
-) -> Vec<TcpWire<N>> {
-    let mut words = Vec::new(alloc);
-    for word in text.split_whitespace() {
-        let word = String::from_str(alloc, word).expect(rt, "memory");
-        words.push(word).expect(rt, "memory");
-    }
-    wires_for(rt, alloc, &words).ok().expect(rt, "memory")
-}
-
-// What main hands to the program: `serve` listens with its workers, and `join` dials it.
-#[test]
-fn words_have_their_wires(rt: HostRuntime) {
-    let mut serving = wires_of(&rt, rt.alloc(), "serve 127.0.0.1:0 --workers 2");
-    assert_eq!(rt; serving.len(), 2);
-    let mut wire = serving.pop().expect(&rt, "a wire");
-    let port = wire.port().expect(&rt, "a port");
-    let line = format!(in rt.alloc(); "join 127.0.0.1:{port} ann").expect(&rt, "memory");
-    let mut joining = wires_of(&rt, rt.alloc(), line.as_str());
-    assert_eq!(rt; joining.len(), 1);
-    let mut dialer = joining.pop().expect(&rt, "a wire");
-    let (near_rx, mut near_tx) = dialed(&rt, &mut dialer);
-    let (mut far_rx, far_tx) = accepted(&rt, &mut wire);
-    let mut buf = [0; 8];
-    assert_eq!(rt; near_tx.write(b"ping"), Ok(4));
-    assert_eq!(rt; far_rx.read(&mut buf), Ok(4));
-    wire.done(far_rx, far_tx);
-    dialer.done(near_rx, near_tx);
-    assert_eq!(rt; wires_of(&rt, rt.alloc(), "play").len(), 0);
-    assert_eq!(rt; wires_of(&rt, rt.alloc(), line.as_str()).len(), 1);
 }
 
 #[test]

@@ -83,15 +83,22 @@ impl<'a> Damage<'a> {
         frames: &[&[u8]],
     ) -> Result<Coming, AllocError> {
         let mut damaged = link.copy(alloc)?;
-        match self {
-            Damage::Cut(len) => damaged.bytes.truncate(len),
-            Damage::Lie(k, new) | Damage::End(k, new) | Damage::Instead(k, new, _) => {
-                damaged.bytes = replaced(alloc, frames, k, new)?;
-            }
-            Damage::Read(call) => damaged.reads.push(call as u64)?,
-            Damage::Write(call) => damaged.writes.push(call as u64)?,
-        }
+        self.put_on(frames, &mut damaged)?;
         Ok(damaged)
+    }
+
+    /// Does this damage to a link of these frames.
+    fn put_on(self, frames: &[&[u8]], link: &mut Coming) -> Result<(), AllocError> {
+        match self {
+            Damage::Cut(len) => link.bytes.truncate(len),
+            Damage::Lie(k, new) | Damage::End(k, new) | Damage::Instead(k, new, _) => {
+                link.bytes.clear();
+                put_replaced(frames, k, new, &mut link.bytes)?;
+            }
+            Damage::Read(call) => link.reads.push(call as u64)?,
+            Damage::Write(call) => link.writes.push(call as u64)?,
+        }
+        Ok(())
     }
 
     /// Adds its name.
@@ -108,18 +115,17 @@ impl<'a> Damage<'a> {
     }
 }
 
-/// Frames, with this one in place of one.
-fn replaced(
-    alloc: Global,
+/// Adds frames, with this one in place of one.
+fn put_replaced(
     frames: &[&[u8]],
     number: usize,
     new: &[u8],
-) -> Result<Vec<u8>, AllocError> {
-    let mut bytes = Vec::new(alloc);
+    out: &mut Vec<u8>,
+) -> Result<(), AllocError> {
     for (k, frame) in frames.iter().enumerate() {
-        bytes.extend_from_slice(if k == number { new } else { *frame })?;
+        out.extend_from_slice(if k == number { new } else { *frame })?;
     }
-    Ok(bytes)
+    Ok(())
 }
 
 /// The damages of a link of these frames in pieces of this length.
@@ -129,14 +135,24 @@ pub fn damages_of<'a>(
     frames: &[&[u8]],
     piece: usize,
 ) -> Result<Vec<Damage<'a>>, AllocError> {
-    let len = place_of(frames, frames.len());
     let mut damages = Vec::new(alloc);
+    put_damages(table, frames, piece, &mut damages)?;
+    Ok(damages)
+}
+
+/// Adds the damages of a link.
+fn put_damages<'a>(
+    table: &'a Table,
+    frames: &[&[u8]],
+    piece: usize,
+    damages: &mut Vec<Damage<'a>>,
+) -> Result<(), AllocError> {
+    let len = place_of(frames, frames.len());
     for cut in 0..len.saturating_add(1) {
         damages.push(Damage::Cut(cut))?;
     }
-    put_frame_damages(table, frames, &mut damages)?;
-    put_call_damages(table, len, piece.max(1), &mut damages)?;
-    Ok(damages)
+    put_frame_damages(table, frames, damages)?;
+    put_call_damages(table, len, piece.max(1), damages)
 }
 
 /// Adds the damages by frames in place of others.

@@ -3,6 +3,7 @@
 ghost use Rattle.std.specs.Prelude.{◌≡◌, ◌≤◌, None, length};
 
 use crate::links::{Coming, Pause};
+use crate::wires::LinkFails;
 use dp_io::{Failed, FaultPlan, MemSink, Sink, Source};
 use std::alloc::{AllocError, Global};
 use std::sync::Arc;
@@ -154,35 +155,65 @@ impl Sink for RowTx {
     }
 }
 
-/// The two ends of the link of this number, in pieces of this length.
+/// The two ends of the link of this number, in pieces of this length. Calls fail on it that the
+/// link itself names, and these.
 pub fn ends_of(
     alloc: Global,
-    coming: Coming,
+    coming: &Coming,
+    fails: &LinkFails,
     link: usize,
     piece: usize,
     sent: &Arc<Sent>,
 ) -> Result<(RowRx, RowTx), AllocError>
     requires { 1 ≤ piece }
 {
-    let Coming {
-        bytes,
-        pauses,
-        reads,
-        writes,
-    } = coming;
-    let rx = RowRx {
+    let tx = tx_of(alloc, coming, &fails.writes, link, piece, sent)?;
+    let rx = rx_of(alloc, coming, &fails.reads, piece, sent)?;
+    Ok((rx, tx))
+}
+
+/// The end that is read, on which these reads fail, too.
+fn rx_of(
+    alloc: Global,
+    coming: &Coming,
+    fails: &[u64],
+    piece: usize,
+    sent: &Arc<Sent>,
+) -> Result<RowRx, AllocError> {
+    let sent = sent.clone()?;
+    let bytes = Vec::from_slice(alloc, &coming.bytes)?;
+    let pauses = Vec::from_slice(alloc, &coming.pauses)?;
+    let reads = both_of(alloc, &coming.reads, fails)?;
+    Ok(RowRx {
         bytes,
         at: 0,
         piece,
         pauses,
-        sent: sent.clone()?,
+        sent,
         plan: FaultPlan::new(reads),
-    };
+    })
+}
+
+/// The end that is written, on which these writes fail, too.
+fn tx_of(
+    alloc: Global,
+    coming: &Coming,
+    fails: &[u64],
+    link: usize,
+    piece: usize,
+    sent: &Arc<Sent>,
+) -> Result<RowTx, AllocError>
+    requires { 1 ≤ piece }
+{
+    let writes = both_of(alloc, &coming.writes, fails)?;
     let sink = MemSink::new(alloc, ROOM, piece, writes)?;
-    let tx = RowTx {
-        sink,
-        link,
-        sent: sent.clone()?,
-    };
-    Ok((rx, tx))
+    let sent = sent.clone()?;
+    Ok(RowTx { sink, link, sent })
+}
+
+/// The numbers of both lists.
+fn both_of(alloc: Global, calls: &[u64], others: &[u64]) -> Result<Vec<u64>, AllocError> {
+    let mut both = Vec::from_slice(alloc, calls)?;
+    both.extend_from_slice(others)?;
+    Ok(both)
 }

@@ -27,15 +27,41 @@ pub fn client_answer(
 ) -> Result<Answer, AllocError> {
     let limits = limits_of(alloc, frames, damage, piece)?;
     let mut answer = Answer::new(alloc);
+    put_client_answer(alloc, steps, &limits, &mut answer)?;
+    Ok(answer)
+}
+
+/// Puts what the client gives into an answer.
+fn put_client_answer(
+    alloc: Global,
+    steps: &[Step],
+    limits: &Limits,
+    answer: &mut Answer,
+) -> Result<(), AllocError> {
     let mut sent = Vec::new(alloc);
+    take_steps(steps, limits, answer, &mut sent)?;
+    put_sent(&sent, &mut answer.sent)
+}
+
+/// Adds the line of what was sent, with its newline before it.
+fn put_sent(sent: &[u8], text: &mut Vec<u8>) -> Result<(), AllocError> {
+    text.extend_from_slice(b"\nsent ")?;
+    put_hex(sent, text)
+}
+
+/// Takes steps, up to the first after which the client doesn't go on.
+fn take_steps(
+    steps: &[Step],
+    limits: &Limits,
+    answer: &mut Answer,
+    sent: &mut Vec<u8>,
+) -> Result<(), AllocError> {
     for step in steps {
-        if !take_step(step, &limits, &mut answer, &mut sent)? {
+        if !take_step(step, limits, answer, sent)? {
             break;
         }
     }
-    answer.sent.extend_from_slice(b"\nsent ")?;
-    put_hex(&sent, &mut answer.sent)?;
-    Ok(answer)
+    Ok(())
 }
 
 /// Takes a step, and answers whether the client goes on.
@@ -81,22 +107,22 @@ fn limits_of(
         Damage::Write(call) => (all, 5, call.saturating_sub(1)),
     };
     let mut said = Vec::new(alloc);
-    match status {
-        10 => put_numbered(
-            b"bad message at ",
-            place_of(frames, whole) as u64,
-            b"\n",
-            &mut said,
-        )?,
-        11 => said.extend_from_slice(b"link closed\n")?,
-        _ => said.extend_from_slice(b"link fault\n")?,
-    }
+    put_end(status, place_of(frames, whole), &mut said)?;
     Ok(Limits {
         whole,
         status,
         said,
         sent,
     })
+}
+
+/// Adds what is said of a run that ends with this status, at this place of the link.
+fn put_end(status: u8, at: usize, said: &mut Vec<u8>) -> Result<(), AllocError> {
+    match status {
+        10 => put_numbered(b"bad message at ", at as u64, b"\n", said),
+        11 => said.extend_from_slice(b"link closed\n"),
+        _ => said.extend_from_slice(b"link fault\n"),
+    }
 }
 
 /// How many frames are whole before the read of this number.

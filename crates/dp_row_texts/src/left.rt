@@ -1,5 +1,6 @@
 //! What a server leaves.
 
+use crate::gate::RowGate;
 use crate::printing::{put_numbered, put_parts};
 use dp_keeper::{MemKeeper, Row, RowBytes, Rows};
 use dp_lines::put_hex;
@@ -41,6 +42,15 @@ pub fn put_kept(keeper: &MemKeeper, out: &mut Vec<u8>) -> Result<(), AllocError>
     Ok(())
 }
 
+/// Adds how often the gate was passed, if it was, and a line if it held a job in vain.
+pub fn put_gate(gate: &RowGate, out: &mut Vec<u8>) -> Result<(), AllocError> {
+    put_passes(gate.passes(), out)?;
+    if gate.gave_up() {
+        put_parts(&[b"a job was held in vain\n"], out)?;
+    }
+    Ok(())
+}
+
 /// Adds how often the gate was passed, if it was.
 pub fn put_passes(passes: u64, out: &mut Vec<u8>) -> Result<(), AllocError> {
     if passes == 0 {
@@ -57,13 +67,24 @@ pub fn keeper_of(
     reads: Vec<u64>,
     puts: &[u64],
 ) -> Result<MemKeeper, AllocError> {
+    let lost = lost_puts(alloc, puts)?;
+    let rows = rows_of(alloc, kept)?;
+    Ok(MemKeeper::new(rows, lost, reads))
+}
+
+/// Rows of these bytes.
+fn rows_of(alloc: Global, kept: &[Vec<u8>]) -> Result<Rows, AllocError> {
     let mut rows = Rows::new(alloc);
     for (n, bytes) in kept.iter().enumerate() {
-        let bytes = RowBytes::from_vec(Vec::from_slice(alloc, bytes)?);
-        rows.push(Row { n: n as u64, bytes })?;
+        rows.push(row_of(alloc, n as u64, bytes)?)?;
     }
-    let lost = lost_puts(alloc, puts)?;
-    Ok(MemKeeper::new(rows, lost, reads))
+    Ok(rows)
+}
+
+/// The row of a number, of these bytes.
+fn row_of(alloc: Global, n: u64, bytes: &[u8]) -> Result<Row, AllocError> {
+    let bytes = RowBytes::from_vec(Vec::from_slice(alloc, bytes)?);
+    Ok(Row { n, bytes })
 }
 
 /// The puts that fail and lose their rows.

@@ -1,6 +1,6 @@
 //! Links to come.
 
-use crate::names::{Names, read_word};
+use crate::names::{Names, put_times, read_word};
 use crate::reading::put_numbers;
 use std::alloc::{AllocError, Global};
 
@@ -42,6 +42,21 @@ impl Coming {
             reads: Vec::from_slice(alloc, &self.reads)?,
             writes: Vec::from_slice(alloc, &self.writes)?,
         })
+    }
+
+    /// Adds what words say of the link, and answers whether they are right ones.
+    fn put_words(
+        &mut self,
+        alloc: Global,
+        names: &Names<'_>,
+        words: &str,
+    ) -> Result<bool, AllocError> {
+        for word in words.split_whitespace() {
+            if !self.put_word(alloc, names, word)? {
+                return Ok(false);
+            }
+        }
+        Ok(true)
     }
 
     /// Adds what a word says of the link, and answers whether it is a right one.
@@ -86,9 +101,7 @@ impl Coming {
         let Some(part) = read_word(alloc, names, word)? else {
             return Ok(false);
         };
-        for _ in 0..part.times {
-            self.bytes.extend_from_slice(&part.bytes)?;
-        }
+        put_times(part.times, &part.bytes, &mut self.bytes)?;
         Ok(true)
     }
 }
@@ -100,17 +113,12 @@ pub fn put_link(
     words: &str,
     wires: &mut Vec<Vec<Coming>>,
 ) -> Result<bool, AllocError> {
-    let mut link = Coming::new(Vec::new(alloc));
-    for word in words.split_whitespace() {
-        if !link.put_word(alloc, names, word)? {
-            return Ok(false);
-        }
-    }
-    match wires.last_mut() {
-        Some(links) => {
-            links.push(link)?;
-            Ok(true)
-        }
+    let Some(links) = wires.last_mut() else {
+        return Ok(false);
+    };
+    links.push(Coming::new(Vec::new(alloc)))?;
+    match links.last_mut() {
+        Some(link) => link.put_words(alloc, names, words),
         None => Ok(false),
     }
 }

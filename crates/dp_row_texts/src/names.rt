@@ -13,10 +13,12 @@ pub struct Names<'a> {
 impl<'a> Names<'a> {
     /// What the word stands for: the text of its name, or itself.
     pub fn text<'b>(&'b self, word: &'b str) -> &'b str {
-        match self.pairs.iter().rev().find(|pair| pair.0 == word) {
-            Some(pair) => pair.1,
-            None => word,
+        for pair in self.pairs.iter().rev() {
+            if pair.0 == word {
+                return pair.1;
+            }
         }
+        word
     }
 }
 
@@ -44,17 +46,23 @@ pub fn read_word(alloc: Global, names: &Names<'_>, word: &str) -> Result<Option<
 fn put_digits(alloc: Global, text: &str, out: &mut Vec<u8>) -> Result<bool, AllocError> {
     for word in text.split(' ') {
         let (times, digits) = counted(word);
-        let Some(bytes) = hex_of(alloc, digits.as_bytes())? else {
-            return Ok(false);
-        };
         if times == 0 {
             return Ok(false);
         }
-        for _ in 0..times {
-            out.extend_from_slice(&bytes)?;
-        }
+        let Some(bytes) = hex_of(alloc, digits.as_bytes())? else {
+            return Ok(false);
+        };
+        put_times(times, &bytes, out)?;
     }
     Ok(true)
+}
+
+/// Adds bytes so often.
+pub fn put_times(times: u64, bytes: &[u8], out: &mut Vec<u8>) -> Result<(), AllocError> {
+    for _ in 0..times {
+        out.extend_from_slice(bytes)?;
+    }
+    Ok(())
 }
 
 /// Adds what a word stands for.

@@ -61,12 +61,16 @@ fn head_len(output: &[u8]) -> Option<usize> {
     if !output.starts_with(b"P6\n") {
         return None;
     }
-    let ends = output
-        .iter()
-        .enumerate()
-        .filter(|(_, byte)| **byte == b'\n');
-    let (at, _) = ends.skip(2).next()?;
-    Some(at.saturating_add(1))
+    let mut lines = 0u64;
+    for (at, byte) in output.iter().enumerate() {
+        if *byte == b'\n' {
+            lines = lines.saturating_add(1);
+        }
+        if lines == 3 {
+            return Some(at.saturating_add(1));
+        }
+    }
+    None
 }
 
 /// Adds the head of a picture in one line.

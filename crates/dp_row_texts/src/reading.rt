@@ -4,7 +4,7 @@ use crate::fails::{Fail, Object};
 use crate::links::put_link;
 use crate::names::{Names, put_line, read_word};
 use crate::row::{Part, Row};
-use crate::tables::{Table, put_frames, put_table_line};
+use crate::tables::{put_frames, put_table_line};
 use std::alloc::{AllocError, Global};
 
 /// What a text has.
@@ -51,11 +51,9 @@ fn read_line<'a>(
         };
     }
     if let Some(head) = line.strip_prefix("> ") {
-        return match read_head(alloc, head)? {
-            Some(row) => {
-                rows.push(row)?;
-                Ok(true)
-            }
+        rows.push(Row::new(alloc, head)?)?;
+        return match rows.last_mut() {
+            Some(row) => read_head(alloc, row, head),
             None => Ok(false),
         };
     }
@@ -65,29 +63,17 @@ fn read_line<'a>(
     }
 }
 
-/// The row that a line begins.
-fn read_head(alloc: Global, head: &str) -> Result<Option<Row>, AllocError> {
-    let mut row = Row {
-        head: String::from_str(alloc, head)?,
-        words: Vec::new(alloc),
-        pieces: Vec::new(alloc),
-        room: 20_000,
-        fails: Vec::new(alloc),
-        each: Vec::new(alloc),
-        input: Vec::new(alloc),
-        wires: Vec::new(alloc),
-        kept: Vec::new(alloc),
-        table: Table::new(alloc),
-    };
+/// Reads the line that begins a row, and answers whether it is a right one.
+fn read_head(alloc: Global, row: &mut Row, head: &str) -> Result<bool, AllocError> {
     for word in head.split_whitespace() {
-        if !read_head_word(alloc, &mut row, word)? {
-            return Ok(None);
+        if !read_head_word(alloc, row, word)? {
+            return Ok(false);
         }
     }
     if row.pieces.is_empty() {
         put_numbers("1,7,4096", &mut row.pieces)?;
     }
-    Ok(Some(row))
+    Ok(true)
 }
 
 /// Reads a word of the line that begins a row, and answers whether it is a right one.
@@ -97,6 +83,10 @@ fn read_head_word(alloc: Global, row: &mut Row, word: &str) -> Result<bool, Allo
         Some(("room", value)) => {
             row.room = value.parse::<u64>().unwrap_or(0);
             Ok(row.room > 0)
+        }
+        Some(("hold", value)) => {
+            row.hold = value.parse::<u32>().ok();
+            Ok(row.hold.is_some())
         }
         Some(("each", value)) => match Object::of(value) {
             Some(object) => {
@@ -123,18 +113,21 @@ fn put_fails(
     fails: &mut Vec<Fail>,
 ) -> Result<bool, AllocError> {
     let mut calls = Vec::new(alloc);
-    if !put_numbers(value, &mut calls)? {
-        return Ok(false);
+    let right = put_numbers(value, &mut calls)?;
+    match Object::of(name) {
+        Some(object) if right => put_calls(object, &calls, fails)?,
+        _ => {}
     }
-    if let Some(object) = Object::of(name) {
-        for call in &calls {
-            fails.push(Fail {
-                object,
-                call: *call,
-            })?;
-        }
+    Ok(right)
+}
+
+/// Adds calls of an object.
+fn put_calls(object: Object, calls: &[u64], fails: &mut Vec<Fail>) -> Result<(), AllocError> {
+    for call in calls {
+        let call = *call;
+        fails.push(Fail { object, call })?;
     }
-    Ok(true)
+    Ok(())
 }
 
 /// Adds the numbers of a list such as `1,5-9`, and answers whether it is one.
@@ -171,12 +164,23 @@ fn read_row_line(
         Some(("kept", words)) => put_frames(alloc, names, words, &mut row.kept),
         Some(("table", rest)) => put_table_line(alloc, names, &mut row.table, rest),
         _ => {
-            let mut bytes = Vec::new(alloc);
-            put_line(names, line.strip_prefix('|').unwrap_or(line), &mut bytes)?;
-            put_part(Part { times: 1, bytes }, &mut row.input)?;
+            let line = line.strip_prefix('|').unwrap_or(line);
+            put_input_line(alloc, names, line, &mut row.input)?;
             Ok(true)
         }
     }
+}
+
+/// Adds a line of text.
+fn put_input_line(
+    alloc: Global,
+    names: &Names<'_>,
+    line: &str,
+    input: &mut Vec<Part>,
+) -> Result<(), AllocError> {
+    let mut bytes = Vec::new(alloc);
+    put_line(names, line, &mut bytes)?;
+    put_part(Part { times: 1, bytes }, input)
 }
 
 /// Adds a part to an input.
@@ -218,9 +222,15 @@ fn put_repeated(
     let (times, lines) = rest.split_once(' ').unwrap_or((rest, ""));
     let times = times.parse::<u64>().unwrap_or(0);
     let mut bytes = Vec::new(alloc);
-    for line in lines.split(" ; ") {
-        put_line(names, line, &mut bytes)?;
-    }
+    put_lines(names, lines, &mut bytes)?;
     put_part(Part { times, bytes }, input)?;
     Ok(times > 0)
+}
+
+/// Adds lines of text.
+fn put_lines(names: &Names<'_>, lines: &str, out: &mut Vec<u8>) -> Result<(), AllocError> {
+    for line in lines.split(" ; ") {
+        put_line(names, line, out)?;
+    }
+    Ok(())
 }

@@ -3,6 +3,7 @@
 use crate::fails::{Fail, Object};
 use crate::links::Coming;
 use crate::tables::Table;
+use std::alloc::{AllocError, Global};
 
 /// Bytes that stand in an input so often.
 #[derive(Drop)]
@@ -21,6 +22,8 @@ pub struct Row {
     pub pieces: Vec<u64>,
     /// How many bytes the output takes.
     pub room: u64,
+    /// The job that has to pass the gate before job 0 does, if there is one.
+    pub hold: Option<u32>,
     pub fails: Vec<Fail>,
     /// The objects of which each call is to fail in turn.
     pub each: Vec<Object>,
@@ -31,4 +34,23 @@ pub struct Row {
     pub kept: Vec<Vec<u8>>,
     /// What damaged links are to give.
     pub table: Table,
+}
+
+impl Row {
+    /// A row that begins with this line, before its words were read.
+    pub fn new(alloc: Global, head: &str) -> Result<Row, AllocError> {
+        Ok(Row {
+            head: String::from_str(alloc, head)?,
+            words: Vec::new(alloc),
+            pieces: Vec::new(alloc),
+            room: 20_000,
+            hold: None,
+            fails: Vec::new(alloc),
+            each: Vec::new(alloc),
+            input: Vec::new(alloc),
+            wires: Vec::new(alloc),
+            kept: Vec::new(alloc),
+            table: Table::new(alloc),
+        })
+    }
 }

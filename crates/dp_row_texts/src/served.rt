@@ -66,6 +66,13 @@ impl Served {
             sent: Vec::new(alloc),
         }
     }
+
+    /// A link whose painter wasn't greeted: how that ended, and what was sent of the Welcome.
+    fn not_greeted(alloc: Global, end: &[u8], welcome: &[u8]) -> Result<Served, AllocError> {
+        let told = not_greeted(alloc, end)?;
+        let sent = Vec::from_slice(alloc, welcome)?;
+        Ok(Served { told, sent })
+    }
 }
 
 impl Past {
@@ -91,25 +98,22 @@ impl Past {
         Ok(())
     }
 
+    /// How many entries the history has.
+    fn place(&self, alloc: Global) -> Result<u8, AllocError> {
+        let frames = frames_of(alloc, &self.history)?;
+        Ok(u8::try_from(frames.len()).unwrap_or(u8::MAX))
+    }
+
     /// Opens a connection for a Hello.
     fn open(&mut self, alloc: Global, hello: &Said<'_>) -> Result<Greeted, AllocError> {
         let user = hello.placed.get(3).copied().unwrap_or(0);
-        let place = frames_of(alloc, &self.history)?.len();
-        let place = u8::try_from(place).unwrap_or(u8::MAX);
-        let mut welcome = Vec::new(alloc);
-        let parts: [&[u8]; 4] = [
-            b"\x00\x0b\x04\x00\x00\x01",
-            &[user],
-            b"\0\0\0\0\0\0\0",
-            &[place],
-        ];
-        put_parts(&parts, &mut welcome)?;
+        let place = self.place(alloc)?;
         self.conns = self.conns.saturating_add(1);
         self.keep(&[b"\0\0", hello.frame.get(4..).unwrap_or(&[])])?;
         self.history.extend_from_slice(hello.placed)?;
         Ok(Greeted {
             conn: self.conns,
-            welcome,
+            welcome: welcome_of(alloc, user, place)?,
         })
     }
 
@@ -137,25 +141,37 @@ impl Past {
         Ok(sent)
     }
 
+    /// How many bytes a painter was sent up to now.
+    fn sent_len(&self, greeted: &Greeted) -> usize {
+        greeted.welcome.len().saturating_add(self.history.len())
+    }
+
     /// Serves a link whole, and tells of it.
     fn serve(&mut self, alloc: Global, talk: &Talk<'_>) -> Result<Served, AllocError> {
         let Some((hello, messages)) = talk.said.split_first() else {
-            return Ok(Served {
-                told: not_greeted(alloc, &talk.end)?,
-                sent: Vec::new(alloc),
-            });
+            return Served::not_greeted(alloc, &talk.end, &[]);
         };
         let greeted = self.open(alloc, hello)?;
+        self.serve_open(alloc, talk, messages, &greeted)
+    }
+
+    /// Serves the link of a painter whose connection is open.
+    fn serve_open(
+        &mut self,
+        alloc: Global,
+        talk: &Talk<'_>,
+        messages: &[Said<'_>],
+        greeted: &Greeted,
+    ) -> Result<Served, AllocError> {
         if talk.room < WELCOME {
             self.close(greeted.conn, talk.leave)?;
-            let mut sent = greeted.welcome;
-            sent.truncate(talk.room);
-            let told = not_greeted(alloc, b"WriteFault")?;
-            return Ok(Served { told, sent });
+            let welcome = greeted.welcome.as_slice();
+            let sent = &welcome[..talk.room.min(welcome.len())];
+            return Served::not_greeted(alloc, b"WriteFault", sent);
         }
         self.say(greeted.conn, messages)?;
         self.close(greeted.conn, talk.leave)?;
-        self.end_of(alloc, &greeted, talk)
+        self.end_of(alloc, greeted, talk)
     }
 
     /// Tells of a link that has ended.
@@ -166,17 +182,38 @@ impl Past {
         talk: &Talk<'_>,
     ) -> Result<Served, AllocError> {
         let mut sent = self.sent_to(alloc, greeted)?;
-        let down: &[u8] = if talk.room < sent.len() {
-            b"WriteFault"
-        } else {
-            b"Gone"
-        };
+        let is_cut = talk.room < sent.len();
         sent.truncate(talk.room);
-        let mut told = Vec::new(alloc);
-        put_numbered(b" conn ", u64::from(greeted.conn), b" up ", &mut told)?;
-        put_parts(&[&talk.end, b" down ", down, b"\n"], &mut told)?;
+        let told = told_of(alloc, greeted.conn, &talk.end, is_cut)?;
         Ok(Served { told, sent })
     }
+}
+
+/// The Welcome of a user, whose Join is at this place.
+fn welcome_of(alloc: Global, user: u8, place: u8) -> Result<Vec<u8>, AllocError> {
+    let mut welcome = Vec::new(alloc);
+    let parts: [&[u8]; 4] = [
+        b"\x00\x0b\x04\x00\x00\x01",
+        &[user],
+        b"\0\0\0\0\0\0\0",
+        &[place],
+    ];
+    put_parts(&parts, &mut welcome)?;
+    Ok(welcome)
+}
+
+/// What is told of a painter who was greeted. If the link was cut, a write to it failed.
+fn told_of(alloc: Global, conn: u8, end: &[u8], is_cut: bool) -> Result<Vec<u8>, AllocError> {
+    let mut told = Vec::new(alloc);
+    put_end(conn, end, is_cut, &mut told)?;
+    Ok(told)
+}
+
+/// Adds what is told of a painter who was greeted.
+fn put_end(conn: u8, end: &[u8], is_cut: bool, told: &mut Vec<u8>) -> Result<(), AllocError> {
+    let down: &[u8] = if is_cut { b"WriteFault" } else { b"Gone" };
+    put_numbered(b" conn ", u64::from(conn), b" up ", told)?;
+    put_parts(&[end, b" down ", down, b"\n"], told)
 }
 
 /// What is told of a painter who wasn't greeted.
@@ -223,13 +260,17 @@ fn talk_of<'a>(
         Damage::Read(call) => (read_whole(frames, call, piece), usize::MAX),
         Damage::Write(call) => (all, call.saturating_sub(1)),
     };
+    let end = end_of(alloc, frames, damage)?;
     let mut said = said_of(alloc, frames, placed, count)?;
     put_said(damage, &mut said)?;
-    let leave = placed.last().map(|frames| frames.as_slice());
+    let leave = match placed.last() {
+        Some(frames) => frames.as_slice(),
+        None => &[],
+    };
     Ok(Talk {
         said,
-        leave: leave.unwrap_or(&[]),
-        end: end_of(alloc, frames, damage)?,
+        leave,
+        end,
         room,
     })
 }
@@ -251,14 +292,19 @@ fn put_said<'a>(damage: Damage<'a>, said: &mut Vec<Said<'a>>) -> Result<(), Allo
 /// How a painter's messages end by this damage.
 fn end_of(alloc: Global, frames: &[&[u8]], damage: Damage<'_>) -> Result<Vec<u8>, AllocError> {
     let mut end = Vec::new(alloc);
-    match damage {
-        Damage::Lie(k, _) => put_bad(place_of(frames, k), &mut end)?,
-        Damage::End(0, _) | Damage::Instead(0, _, _) => put_bad(0, &mut end)?,
-        Damage::End(_, _) => end.extend_from_slice(b"Left")?,
-        Damage::Read(_) => end.extend_from_slice(b"ReadFault")?,
-        _ => end.extend_from_slice(b"End")?,
-    }
+    put_end_of(frames, damage, &mut end)?;
     Ok(end)
+}
+
+/// Adds how a painter's messages end by this damage.
+fn put_end_of(frames: &[&[u8]], damage: Damage<'_>, end: &mut Vec<u8>) -> Result<(), AllocError> {
+    match damage {
+        Damage::Lie(k, _) => put_bad(place_of(frames, k), end),
+        Damage::End(0, _) | Damage::Instead(0, _, _) => put_bad(0, end),
+        Damage::End(_, _) => end.extend_from_slice(b"Left"),
+        Damage::Read(_) => end.extend_from_slice(b"ReadFault"),
+        _ => end.extend_from_slice(b"End"),
+    }
 }
 
 /// Adds that a frame carries no message.
@@ -281,17 +327,37 @@ pub fn server_answer<'a>(
         return Ok(Answer::new(alloc));
     };
     let one = talk_of(alloc, frames, placed, damage, piece)?;
+    answer_beside(alloc, &one, others, piece, wires)
+}
+
+/// The same, if this is what the painter of the first link says, and that is placed of the other.
+fn answer_beside(
+    alloc: Global,
+    one: &Talk<'_>,
+    placed: &[Vec<u8>],
+    piece: usize,
+    wires: &mut [Vec<Coming>],
+) -> Result<Answer, AllocError> {
     let whole = whole_link(alloc, wires)?;
-    let two = whole_talk(alloc, &whole, others, piece)?;
+    let two = whole_talk(alloc, &whole, placed, piece)?;
+    answer_of_both(alloc, one, &two, wires)
+}
+
+/// The same, if this is what the painters say.
+fn answer_of_both(
+    alloc: Global,
+    one: &Talk<'_>,
+    two: &Talk<'_>,
+    wires: &mut [Vec<Coming>],
+) -> Result<Answer, AllocError> {
     let mut past = Past::new(alloc)?;
+    let mut answer = Answer::new(alloc);
     if wires.len() < 2 {
-        let one = past.serve(alloc, &one)?;
-        let two = past.serve(alloc, &two)?;
-        answer_of(alloc, &past, &one, b"link 0 1", &two)
+        past.serve_in_turn(alloc, one, two, &mut answer)?;
     } else {
-        let (one, two) = past.serve_beside(alloc, &one, &two, wires)?;
-        answer_of(alloc, &past, &one, b"link 1 0", &two)
+        past.serve_beside(alloc, one, two, wires, &mut answer)?;
     }
+    Ok(answer)
 }
 
 /// What a painter says over a link of these bytes that is whole.
@@ -307,32 +373,28 @@ fn whole_talk<'a>(
 
 /// The bytes of the link that is whole: the last one.
 fn whole_link(alloc: Global, wires: &[Vec<Coming>]) -> Result<Vec<u8>, AllocError> {
-    match wires.last().and_then(|links| links.last()) {
-        Some(link) => Vec::from_slice(alloc, &link.bytes),
-        None => Ok(Vec::new(alloc)),
+    if let Some(links) = wires.last() {
+        if let Some(link) = links.last() {
+            return Vec::from_slice(alloc, &link.bytes);
+        }
     }
-}
-
-/// What the program leaves after these two links.
-fn answer_of(
-    alloc: Global,
-    past: &Past,
-    one: &Served,
-    second: &[u8],
-    two: &Served,
-) -> Result<Answer, AllocError> {
-    let mut answer = Answer::new(alloc);
-    for served in [one, two] {
-        answer.sent.extend_from_slice(b"\nsent ")?;
-        put_hex(&served.sent, &mut answer.sent)?;
-    }
-    let left: [&[u8]; 5] = [b"link 0 0", &one.told, second, &two.told, &past.kept];
-    put_parts(&left, &mut answer.left)?;
-    put_passes(past.acts, &mut answer.left)?;
-    Ok(answer)
+    Ok(Vec::new(alloc))
 }
 
 impl Past {
+    /// Serves a link, and then another one.
+    fn serve_in_turn(
+        &mut self,
+        alloc: Global,
+        one: &Talk<'_>,
+        two: &Talk<'_>,
+        answer: &mut Answer,
+    ) -> Result<(), AllocError> {
+        let one = self.serve(alloc, one)?;
+        let two = self.serve(alloc, two)?;
+        self.put_answer(&one, b"link 0 1", &two, answer)
+    }
+
     /// Serves a link within the time of another one, which is whole.
     fn serve_beside(
         &mut self,
@@ -340,21 +402,70 @@ impl Past {
         one: &Talk<'_>,
         two: &Talk<'_>,
         wires: &mut [Vec<Coming>],
-    ) -> Result<(Served, Served), AllocError> {
-        let Some((hello, messages)) = two.said.split_first() else {
-            return Ok((Served::nothing(alloc), Served::nothing(alloc)));
+        answer: &mut Answer,
+    ) -> Result<(), AllocError> {
+        let Some((hello, _)) = two.said.split_first() else {
+            let nothing = Served::nothing(alloc);
+            return self.put_answer(&nothing, b"link 1 0", &nothing, answer);
         };
         let greeted = self.open(alloc, hello)?;
-        let begun = self.sent_to(alloc, &greeted)?.len();
+        put_pause(wires, 0, 0, self.sent_len(&greeted))?;
+        self.serve_within(alloc, one, two, &greeted, wires, answer)
+    }
+
+    /// The same, once the whole link's painter is greeted.
+    fn serve_within(
+        &mut self,
+        alloc: Global,
+        one: &Talk<'_>,
+        two: &Talk<'_>,
+        greeted: &Greeted,
+        wires: &mut [Vec<Coming>],
+        answer: &mut Answer,
+    ) -> Result<(), AllocError> {
         let one = self.serve(alloc, one)?;
-        let over = self.sent_to(alloc, &greeted)?.len();
+        if let Some(hello) = two.said.first() {
+            put_pause(wires, 1, hello.frame.len(), self.sent_len(greeted))?;
+        }
+        self.serve_rest(alloc, &one, two, greeted, answer)
+    }
+
+    /// The same, once the other link is over.
+    fn serve_rest(
+        &mut self,
+        alloc: Global,
+        one: &Served,
+        two: &Talk<'_>,
+        greeted: &Greeted,
+        answer: &mut Answer,
+    ) -> Result<(), AllocError> {
+        let messages = two.said.get(1..).unwrap_or(&[]);
         self.say(greeted.conn, messages)?;
         self.close(greeted.conn, two.leave)?;
-        put_pause(wires, 0, 0, begun)?;
-        put_pause(wires, 1, hello.frame.len(), over)?;
-        let two = self.end_of(alloc, &greeted, two)?;
-        Ok((one, two))
+        let two = self.end_of(alloc, greeted, two)?;
+        self.put_answer(one, b"link 1 0", &two, answer)
     }
+
+    /// Puts what the program leaves after these two links into an answer.
+    fn put_answer(
+        &self,
+        one: &Served,
+        second: &[u8],
+        two: &Served,
+        answer: &mut Answer,
+    ) -> Result<(), AllocError> {
+        put_sent(one, &mut answer.sent)?;
+        put_sent(two, &mut answer.sent)?;
+        let left: [&[u8]; 5] = [b"link 0 0", &one.told, second, &two.told, &self.kept];
+        put_parts(&left, &mut answer.left)?;
+        put_passes(self.acts, &mut answer.left)
+    }
+}
+
+/// Adds the line of what a link's painter was sent, with its newline before it.
+fn put_sent(served: &Served, text: &mut Vec<u8>) -> Result<(), AllocError> {
+    text.extend_from_slice(b"\nsent ")?;
+    put_hex(&served.sent, text)
 }
 
 /// Gives the first link of the wire of this number one pause: its bytes from this place on come

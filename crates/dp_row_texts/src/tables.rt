@@ -1,6 +1,7 @@
 //! Tables of damaged links.
 
 use crate::names::{Names, put_line, read_word};
+use crate::row::Part;
 use std::alloc::{AllocError, Global};
 
 /// What a client over a link does next.
@@ -66,10 +67,11 @@ pub fn put_table_line(
         "ends" => put_frames(alloc, names, rest, &mut table.ends),
         "instead" => put_frames(alloc, names, rest, &mut table.instead),
         "placed" => {
-            let mut frames = Vec::new(alloc);
-            let right = put_frames(alloc, names, rest, &mut frames)?;
-            table.placed.push(frames)?;
-            Ok(right)
+            table.placed.push(Vec::new(alloc))?;
+            match table.placed.last_mut() {
+                Some(frames) => put_frames(alloc, names, rest, frames),
+                None => Ok(false),
+            }
         }
         "writes" => {
             table.writes = rest.parse::<u64>().unwrap_or(0);
@@ -110,17 +112,27 @@ fn put_step(
     let Ok(wanted) = wanted.parse::<usize>() else {
         return Ok(false);
     };
-    let does = match line.strip_prefix("x ") {
-        Some(word) => match read_word(alloc, names, word)? {
-            Some(part) => Does::Send(part.bytes),
-            None => return Ok(false),
-        },
-        None => {
-            let mut text = Vec::new(alloc);
-            put_line(names, line, &mut text)?;
-            Does::Print(text)
-        }
+    let bytes = match line.strip_prefix("x ") {
+        Some(word) => read_word(alloc, names, word)?,
+        None => Some(line_of(alloc, names, line)?),
     };
-    steps.push(Step { wanted, does })?;
-    Ok(true)
+    match bytes {
+        Some(Part { times: _, bytes }) => {
+            let does = if line.starts_with("x ") {
+                Does::Send(bytes)
+            } else {
+                Does::Print(bytes)
+            };
+            steps.push(Step { wanted, does })?;
+            Ok(true)
+        }
+        None => Ok(false),
+    }
+}
+
+/// A line that is printed.
+fn line_of(alloc: Global, names: &Names<'_>, line: &str) -> Result<Part, AllocError> {
+    let mut bytes = Vec::new(alloc);
+    put_line(names, line, &mut bytes)?;
+    Ok(Part { times: 1, bytes })
 }

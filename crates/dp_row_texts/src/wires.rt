@@ -96,14 +96,7 @@ pub fn wires_of(
     requires { 1 ≤ piece }
 {
     let sent = Sent::new(alloc, count_of(links))?;
-    let mut wires = Vec::new(alloc);
-    let mut link = 0;
-    for coming in links {
-        let failing = failing(alloc, coming, fails)?;
-        let pairs = pairs_of(alloc, failing, link, piece, &sent)?;
-        link = link.saturating_add(coming.len());
-        wires.push(RowWire::new(pairs, Vec::from_slice(alloc, &fails.dials)?))?;
-    }
+    let wires = wires_into(alloc, links, piece, fails, &sent)?;
     Ok(RowWires { wires, sent })
 }
 
@@ -116,24 +109,48 @@ fn count_of(links: &[Vec<Coming>]) -> usize {
     count
 }
 
-/// Copies of links on which these calls fail.
-fn failing(alloc: Global, links: &[Coming], fails: &LinkFails) -> Result<Vec<Coming>, AllocError> {
-    let mut copies = Vec::new(alloc);
-    for link in links {
-        let mut copy = link.copy(alloc)?;
-        copy.reads.extend_from_slice(&fails.reads)?;
-        copy.writes.extend_from_slice(&fails.writes)?;
-        copies.push(copy)?;
+/// The wires, whose links note here what they were sent.
+fn wires_into(
+    alloc: Global,
+    links: &[Vec<Coming>],
+    piece: usize,
+    fails: &LinkFails,
+    sent: &Arc<Sent>,
+) -> Result<Vec<RowWire>, AllocError>
+    requires { 1 ≤ piece }
+{
+    let mut wires = Vec::new(alloc);
+    let mut first = 0;
+    for coming in links {
+        wires.push(wire_of(alloc, coming, first, piece, fails, sent)?)?;
+        first = first.saturating_add(coming.len());
     }
-    Ok(copies)
+    Ok(wires)
+}
+
+/// The wire of links, of which the first has this number.
+fn wire_of(
+    alloc: Global,
+    links: &[Coming],
+    first: usize,
+    piece: usize,
+    fails: &LinkFails,
+    sent: &Arc<Sent>,
+) -> Result<RowWire, AllocError>
+    requires { 1 ≤ piece }
+{
+    let dials = Vec::from_slice(alloc, &fails.dials)?;
+    let pairs = pairs_of(alloc, links, first, piece, fails, sent)?;
+    Ok(RowWire::new(pairs, dials))
 }
 
 /// The ends of links, of which the first has this number.
 fn pairs_of(
     alloc: Global,
-    links: Vec<Coming>,
+    links: &[Coming],
     first: usize,
     piece: usize,
+    fails: &LinkFails,
     sent: &Arc<Sent>,
 ) -> Result<Vec<(RowRx, RowTx)>, AllocError>
     requires { 1 ≤ piece }
@@ -141,19 +158,18 @@ fn pairs_of(
     let mut pairs = Vec::new(alloc);
     let mut link = first;
     for coming in links {
-        pairs.push(ends_of(alloc, coming, link, piece, sent)?)?;
+        pairs.push(ends_of(alloc, coming, fails, link, piece, sent)?)?;
         link = link.saturating_add(1);
     }
     Ok(pairs)
 }
 
-/// What was sent on links that came back: a line for each, with its newline before it.
-pub fn sent_on(alloc: Global, wires: &[RowWire]) -> Result<Vec<u8>, AllocError> {
-    let mut text = Vec::new(alloc);
+/// Adds what was sent on links that came back: a line for each, with its newline before it.
+pub fn put_sent_on(wires: &[RowWire], text: &mut Vec<u8>) -> Result<(), AllocError> {
     for wire in wires {
-        put_sent(wire, &mut text)?;
+        put_sent(wire, text)?;
     }
-    Ok(text)
+    Ok(())
 }
 
 /// Adds what was sent on links of a wire that came back.

@@ -9,6 +9,7 @@
 //!   and `room=N` how much the output takes. `input=2,7`, `output=..`, `diag=..`, `dial=..`,
 //!   `receive=..`, `send=..`, `rows=..` and `put=..` have the calls with these numbers fail,
 //!   counted from 1. `each=send` runs the row again with each call of that object failing in turn.
+//!   `hold=N` holds job 0 at the gate until job N has passed it, or for a number of turns.
 //! - `x WORDS`: bytes of the row's input, in words of hexadecimal, and `N*WORD` as above.
 //! - `wire` begins a further wire, and `link WORDS` has the bytes of a link to come. Among its
 //!   words `read=3` and `write=..` have these calls on that link fail. `@1:40` is a pause: the
@@ -25,24 +26,27 @@
 //! For each row it prints its first line, the status, the output, the line on diag after `! `, and
 //! what was sent on each link after `sent `. Of a server it prints a line for each link, and each
 //! row of the store after `kept `. `passed N` says how often the gate was passed, if it was: by a
-//! server's workers, or by jobs of `play` and `drill`. A picture of bytes is printed as its head
-//! and its pixels, each with how often it stands there. A backslash ends a text that has no newline
-//! at its end. What a length of pieces gives otherwise than the first one follows after `differs`.
-//! If there is a table, the row runs again with the first link cut after each byte. It runs with
-//! each of its frames replaced, and with each of its reads and writes failing. If two wires have a
-//! link each, the second link is open before the damaged one begins and until that is over. `tried`
-//! says how many runs there were, and `differs` if one gave something else than is due.
+//! server's workers, or by jobs of `play` and `drill`. A line says if job 0 was held in vain. A
+//! picture of bytes is printed as its head and its pixels, each with how often it stands there. A
+//! backslash ends a text that has no newline at its end. What a length of pieces gives otherwise
+//! than the first one follows after `differs`. If there is a table, the row runs again with the
+//! first link cut after each byte. It runs with each of its frames replaced, and with each of its
+//! reads and writes failing. If two wires have a link each, the second link is open before the
+//! damaged one begins and until that is over. `tried` says how many runs there were, and `differs`
+//! if one gave something else than is due.
 #![tactic(auto)]
 
 mod each;
 mod running;
 mod tried;
 
-use crate::each::put_each;
-use crate::running::answer_to;
+use crate::each::{Each, put_each};
+use crate::running::{Tried, answer_to};
 use crate::tried::put_tried;
 use dp_io::{StdSink, put_all};
-use dp_row_texts::{Row, Rows, put_answer, put_bad_row, put_numbered, put_parts, read_rows};
+use dp_row_texts::{
+    Answer, Row, Rows, put_answer, put_bad_row, put_numbered, put_parts, read_rows,
+};
 use std::alloc::{AllocError, Global};
 use std::io::read_to_string;
 use std::process::ExitCode;
@@ -92,19 +96,78 @@ fn put_row<R: Threads + Wait + Sync>(
     row: &Row,
     out: &mut Vec<u8>,
 ) -> Result<(), AllocError> {
-    let first = row.pieces.first().copied().unwrap_or(1);
-    let answer = answer_to(rt, alloc, row, &row.wires, first, None)?;
-    put_parts(&[b"> ", row.head.as_bytes(), b"\n"], out)?;
-    put_answer(&answer, out)?;
-    for piece in row.pieces.iter().skip(1) {
-        let again = answer_to(rt, alloc, row, &row.wires, *piece, None)?;
-        if !again.same(&answer) {
-            put_numbered(b"differs in pieces of ", *piece, b"\n", out)?;
-            put_answer(&again, out)?;
-        }
-    }
-    for object in &row.each {
-        put_each(rt, alloc, row, first, *object, &answer, out)?;
-    }
+    let piece = row.pieces.first().copied().unwrap_or(1);
+    let more = None;
+    let answer = answer_to(rt, alloc, Tried { row, piece, more }, &row.wires)?;
+    put_given(rt, alloc, row, &answer, out)?;
+    drop(answer);
     put_tried(rt, alloc, row, out)
+}
+
+/// Adds what a row gives in pieces of the first length. Then what is different in pieces of another
+/// length, and what each failing call gives.
+fn put_given<R: Threads + Wait + Sync>(
+    rt: &R,
+    alloc: Global,
+    row: &Row,
+    whole: &Answer,
+    out: &mut Vec<u8>,
+) -> Result<(), AllocError> {
+    put_parts(&[b"> ", row.head.as_bytes(), b"\n"], out)?;
+    put_answer(whole, out)?;
+    for piece in row.pieces.iter().skip(1) {
+        put_again(rt, alloc, row, *piece, whole, out)?;
+    }
+    let piece = row.pieces.first().copied().unwrap_or(1);
+    put_all_each(rt, alloc, row, piece, whole, out)
+}
+
+/// Adds what each failing call gives.
+fn put_all_each<R: Threads + Wait + Sync>(
+    rt: &R,
+    alloc: Global,
+    row: &Row,
+    piece: u64,
+    whole: &Answer,
+    out: &mut Vec<u8>,
+) -> Result<(), AllocError> {
+    for object in &row.each {
+        let object = *object;
+        let each = Each {
+            row,
+            piece,
+            object,
+            whole,
+        };
+        put_each(rt, alloc, each, out)?;
+    }
+    Ok(())
+}
+
+/// Adds what a row gives in pieces of another length, if that is different.
+fn put_again<R: Threads + Wait + Sync>(
+    rt: &R,
+    alloc: Global,
+    row: &Row,
+    piece: u64,
+    whole: &Answer,
+    out: &mut Vec<u8>,
+) -> Result<(), AllocError> {
+    let more = None;
+    let again = answer_to(rt, alloc, Tried { row, piece, more }, &row.wires)?;
+    put_if_other(&again, whole, piece, out)
+}
+
+/// Adds what a run gave in pieces of this length, if it is different.
+fn put_if_other(
+    again: &Answer,
+    whole: &Answer,
+    piece: u64,
+    out: &mut Vec<u8>,
+) -> Result<(), AllocError> {
+    if again.same(whole) {
+        return Ok(());
+    }
+    put_numbered(b"differs in pieces of ", piece, b"\n", out)?;
+    put_answer(again, out)
 }

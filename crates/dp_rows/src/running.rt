@@ -1,109 +1,125 @@
-//! Runs of rows over memory.
+//! Runs of rows over memory. A function that holds much has one end, so that what it lets go of is
+//! proved once.
 
-use dp_app::Outcome;
-use dp_app_runs::{Host, Resources, outcome_over};
+ghost use Rattle.std.specs.Prelude.{◌≤◌};
+
+use dp_app_runs::{Host, Left, Resources, outcome_over};
 use dp_io::MemSink;
 use dp_keeper::MemKeeper;
 use dp_row_texts::{
-    Answer, Coming, Fail, LinkFails, Object, Row, RowGate, RowSource, RowWire, RowWires, Told,
-    keeper_of, put_kept, put_parts, put_passes, put_told, sent_on, wires_of,
+    Answer, Coming, Fail, LinkFails, Object, Row, RowGate, RowSource, RowWire, RowWires, Sent,
+    Told, keeper_of, put_gate, put_kept, put_parts, put_sent_on, put_told, wires_of,
 };
 use std::alloc::{AllocError, Global};
 use std::sync::Wait;
 use std::thread::Threads;
 
-/// Runs a row over these links in pieces of this length, with one more call that fails.
+/// What a row reads and writes.
+#[derive(Drop)]
+struct Streams<'a> {
+    input: RowSource<'a>,
+    output: MemSink,
+    diag: MemSink,
+}
+
+/// What is tried: a row in pieces of this length, with one more call that fails.
+#[derive(Clone, Copy)]
+pub struct Tried<'a> {
+    pub row: &'a Row,
+    pub piece: u64,
+    pub more: Option<Fail>,
+}
+
+/// Runs a row over these links.
 pub fn answer_to<R: Threads + Wait + Sync>(
     rt: &R,
     alloc: Global,
-    row: &Row,
+    tried: Tried<'_>,
     links: &[Vec<Coming>],
-    piece: u64,
-    more: Option<Fail>,
 ) -> Result<Answer, AllocError> {
-    let piece = (piece as usize).max(1);
-    let fails = LinkFails {
-        dials: calls_of(alloc, row, Object::Dial, more)?,
-        reads: calls_of(alloc, row, Object::Receive, more)?,
-        writes: calls_of(alloc, row, Object::Send, more)?,
-    };
-    let RowWires { wires, sent } = wires_of(alloc, links, piece, &fails)?;
-    let mut input = RowSource::new(
-        &row.input,
-        piece,
-        calls_of(alloc, row, Object::Input, more)?,
-    );
-    let mut output = MemSink::new(
-        alloc,
-        row.room as usize,
-        piece,
-        calls_of(alloc, row, Object::Output, more)?,
-    )?;
-    let mut diag = MemSink::new(
-        alloc,
-        1000,
-        piece,
-        calls_of(alloc, row, Object::Diag, more)?,
-    )?;
-    let keeper = store_of(alloc, row, more)?;
-    let resources = Resources { wires, keeper };
-    let gate = RowGate::new();
+    let mut answer = Answer::new(alloc);
+    put_answer_to(rt, alloc, tried, links, &mut answer)?;
+    Ok(answer)
+}
+
+/// Runs a row over these links, and puts what that gives into an answer.
+fn put_answer_to<R: Threads + Wait + Sync>(
+    rt: &R,
+    alloc: Global,
+    tried: Tried<'_>,
+    links: &[Vec<Coming>],
+    answer: &mut Answer,
+) -> Result<(), AllocError> {
+    let streams = streams_of(alloc, tried)?;
+    let keeper = store_of(alloc, tried)?;
+    let wires = wires_over(alloc, tried, links)?;
+    put_run(rt, alloc, tried.row, streams, wires, keeper, answer)
+}
+
+/// Runs a row over these, and puts what that gives into an answer.
+fn put_run<R: Threads + Wait + Sync>(
+    rt: &R,
+    alloc: Global,
+    row: &Row,
+    streams: Streams<'_>,
+    wires: RowWires,
+    keeper: MemKeeper,
+    answer: &mut Answer,
+) -> Result<(), AllocError> {
+    let Streams {
+        mut input,
+        mut output,
+        mut diag,
+    } = streams;
+    let RowWires { wires, sent } = wires;
+    let gate = RowGate::new(row.hold);
     let host = Host {
         rt,
         alloc,
         gate: &gate,
     };
-    let outcome = outcome_over(
+    let left = outcome_over(
         host,
         &row.words,
         &mut input,
         &mut output,
         &mut diag,
-        resources,
+        Resources { wires, keeper },
     );
-    Ok(Answer {
-        status: outcome.status,
-        output: Vec::from_slice(alloc, output.as_slice())?,
-        said: Vec::from_slice(alloc, diag.as_slice())?,
-        sent: sent_on(alloc, &outcome.wires)?,
-        left: left_by(alloc, &outcome, gate.passes(), sent.gave_up())?,
-    })
+    answer.status = left.status;
+    put_left(alloc, &left, &output, &diag, &gate, &sent, answer)
 }
 
-/// The numbers of the calls of an object that fail.
-fn calls_of(
+/// Puts what a run left into an answer, also of the gate. Then a line if a pause was given up.
+fn put_left(
     alloc: Global,
-    row: &Row,
-    object: Object,
-    more: Option<Fail>,
-) -> Result<Vec<u64>, AllocError> {
-    let mut calls = Vec::new(alloc);
-    for fail in row.fails.iter().chain(more.iter()) {
-        if fail.object == object {
-            calls.push(fail.call)?;
-        }
+    left: &Left<RowWire, MemKeeper>,
+    output: &MemSink,
+    diag: &MemSink,
+    gate: &RowGate,
+    sent: &Sent,
+    answer: &mut Answer,
+) -> Result<(), AllocError> {
+    answer.output.extend_from_slice(output.as_slice())?;
+    answer.said.extend_from_slice(diag.as_slice())?;
+    put_sent_on(&left.wires, &mut answer.sent)?;
+    put_reports(alloc, left, &mut answer.left)?;
+    put_kept(&left.keeper, &mut answer.left)?;
+    put_gate(gate, &mut answer.left)?;
+    if sent.gave_up() > 0 {
+        put_parts(&[b"a pause was given up\n"], &mut answer.left)?;
     }
-    Ok(calls)
+    Ok(())
 }
 
-/// The store of a row.
-fn store_of(alloc: Global, row: &Row, more: Option<Fail>) -> Result<MemKeeper, AllocError> {
-    let reads = calls_of(alloc, row, Object::Rows, more)?;
-    let puts = calls_of(alloc, row, Object::Put, more)?;
-    keeper_of(alloc, &row.kept, reads, &puts)
-}
-
-/// What a server leaves: a line for each link and for each row that is kept. Then how often the
-/// gate was passed, and a line if a pause was given up.
-fn left_by(
+/// Adds a line for each link of a server.
+fn put_reports(
     alloc: Global,
-    outcome: &Outcome<RowWire, MemKeeper>,
-    passes: u64,
-    gave_up: u64,
-) -> Result<Vec<u8>, AllocError> {
-    let mut text = Vec::new(alloc);
-    for k in 0..outcome.reports.len() {
-        if let Some(report) = outcome.reports.get(k) {
+    left: &Left<RowWire, MemKeeper>,
+    text: &mut Vec<u8>,
+) -> Result<(), AllocError> {
+    for k in 0..left.reports.len() {
+        if let Some(report) = left.reports.get(k) {
             let told = Told {
                 worker: report.worker,
                 link: report.link,
@@ -111,13 +127,83 @@ fn left_by(
                 up: report.up_end,
                 down: report.down_end,
             };
-            put_told(alloc, &told, &mut text)?;
+            put_told(alloc, &told, text)?;
         }
     }
-    put_kept(&outcome.keeper, &mut text)?;
-    put_passes(passes, &mut text)?;
-    if gave_up > 0 {
-        put_parts(&[b"a pause was given up\n"], &mut text)?;
+    Ok(())
+}
+
+/// How many bytes a piece has, at least one.
+fn piece_of(tried: Tried<'_>) -> usize
+    ensures { 1 ≤ result }
+{
+    (tried.piece as usize).max(1)
+}
+
+/// The numbers of the calls of an object that fail.
+fn calls_of(alloc: Global, tried: Tried<'_>, object: Object) -> Result<Vec<u64>, AllocError> {
+    let mut calls = Vec::new(alloc);
+    for fail in &tried.row.fails {
+        if fail.object == object {
+            calls.push(fail.call)?;
+        }
     }
-    Ok(text)
+    match tried.more {
+        Some(fail) if fail.object == object => calls.push(fail.call)?,
+        _ => {}
+    }
+    Ok(calls)
+}
+
+/// What a row reads and writes.
+fn streams_of<'a>(alloc: Global, tried: Tried<'a>) -> Result<Streams<'a>, AllocError> {
+    let output = sink_of(alloc, tried, Object::Output, tried.row.room as usize)?;
+    let diag = sink_of(alloc, tried, Object::Diag, 1000)?;
+    let calls = calls_of(alloc, tried, Object::Input)?;
+    let input = RowSource::new(&tried.row.input, piece_of(tried), calls);
+    Ok(Streams {
+        input,
+        output,
+        diag,
+    })
+}
+
+/// A sink of a row, which takes `room` bytes.
+fn sink_of(
+    alloc: Global,
+    tried: Tried<'_>,
+    object: Object,
+    room: usize,
+) -> Result<MemSink, AllocError> {
+    let calls = calls_of(alloc, tried, object)?;
+    MemSink::new(alloc, room, piece_of(tried), calls)
+}
+
+/// The store of a row.
+fn store_of(alloc: Global, tried: Tried<'_>) -> Result<MemKeeper, AllocError> {
+    let puts = calls_of(alloc, tried, Object::Put)?;
+    let reads = calls_of(alloc, tried, Object::Rows)?;
+    keeper_of(alloc, &tried.row.kept, reads, &puts)
+}
+
+/// The wires of a row over these links.
+fn wires_over(
+    alloc: Global,
+    tried: Tried<'_>,
+    links: &[Vec<Coming>],
+) -> Result<RowWires, AllocError> {
+    let fails = link_fails(alloc, tried)?;
+    wires_of(alloc, links, piece_of(tried), &fails)
+}
+
+/// The calls that fail on wires and links.
+fn link_fails(alloc: Global, tried: Tried<'_>) -> Result<LinkFails, AllocError> {
+    let dials = calls_of(alloc, tried, Object::Dial)?;
+    let reads = calls_of(alloc, tried, Object::Receive)?;
+    let writes = calls_of(alloc, tried, Object::Send)?;
+    Ok(LinkFails {
+        dials,
+        reads,
+        writes,
+    })
 }

@@ -1,7 +1,7 @@
 //! Trials of a row: its links with each damage in turn.
 
-use crate::running::answer_to;
-use dp_row_texts::{Row, Trial, put_answer, put_numbered, put_parts, trials_of};
+use crate::running::{Tried, answer_to};
+use dp_row_texts::{Answer, Row, Trial, put_answer, put_numbered, put_parts, trials_of};
 use std::alloc::{AllocError, Global};
 use std::sync::Wait;
 use std::thread::Threads;
@@ -18,15 +18,24 @@ pub fn put_tried<R: Threads + Wait + Sync>(
         return Ok(());
     }
     for piece in &row.pieces {
-        let trials = trials_of(alloc, row, *piece as usize)?;
-        put_trials(rt, alloc, row, &trials, *piece, out)?;
-        put_numbered(b"tried ", trials.len() as u64, b" links", out)?;
-        put_numbered(b" in pieces of ", *piece, b"\n", out)?;
+        put_tried_in(rt, alloc, row, *piece, out)?;
     }
     Ok(())
 }
 
-/// Runs trials.
+/// The same in one length of pieces.
+fn put_tried_in<R: Threads + Wait + Sync>(
+    rt: &R,
+    alloc: Global,
+    row: &Row,
+    piece: u64,
+    out: &mut Vec<u8>,
+) -> Result<(), AllocError> {
+    let trials = trials_of(alloc, row, piece as usize)?;
+    put_trials(rt, alloc, row, &trials, piece, out)
+}
+
+/// Runs trials, and adds how many they are.
 fn put_trials<R: Threads + Wait + Sync>(
     rt: &R,
     alloc: Global,
@@ -38,7 +47,8 @@ fn put_trials<R: Threads + Wait + Sync>(
     for trial in trials {
         put_trial(rt, alloc, row, trial, piece, out)?;
     }
-    Ok(())
+    put_numbered(b"tried ", trials.len() as u64, b" links", out)?;
+    put_numbered(b" in pieces of ", piece, b"\n", out)
 }
 
 /// Runs a trial.
@@ -50,12 +60,18 @@ fn put_trial<R: Threads + Wait + Sync>(
     piece: u64,
     out: &mut Vec<u8>,
 ) -> Result<(), AllocError> {
-    let answer = answer_to(rt, alloc, row, &trial.wires, piece, None)?;
+    let more = None;
+    let answer = answer_to(rt, alloc, Tried { row, piece, more }, &trial.wires)?;
+    put_difference(trial, &answer, out)
+}
+
+/// Adds what a trial gives, if it is anything else than is due.
+fn put_difference(trial: &Trial, answer: &Answer, out: &mut Vec<u8>) -> Result<(), AllocError> {
     if answer.same(&trial.due) {
         return Ok(());
     }
     put_parts(&[b"differs at ", &trial.name, b"\n"], out)?;
-    put_answer(&answer, out)?;
+    put_answer(answer, out)?;
     put_parts(&[b"due\n"], out)?;
     put_answer(&trial.due, out)
 }

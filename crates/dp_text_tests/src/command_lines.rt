@@ -21,7 +21,7 @@ enum Wanted {
 }
 
 /// Words that are separated by bars, and the command line that they are.
-const LINES: [(&str, Wanted); 23] = [
+static LINES: [(&str, Wanted); 23] = [
     ("replay", Replay),
     ("replay|--", Replay),
     ("world", World),
@@ -72,7 +72,7 @@ const LINES: [(&str, Wanted); 23] = [
 ];
 
 /// Words that ask for nothing.
-const REFUSED: [&str; 57] = [
+static REFUSED: [&str; 57] = [
     "",
     "paint",
     "Replay",
@@ -195,17 +195,17 @@ fn is_wanted(line: &Option<CommandLine>, wanted: Wanted) -> bool {
 #[test]
 fn each_kind_of_line(rt: HostRuntime) {
     let alloc = rt.alloc();
-    for (line, wanted) in LINES {
+    for (line, wanted) in &LINES {
         let words = words_of(&rt, alloc, line);
         let read = read_words(alloc, &words).expect(&rt, "memory");
-        assert!(rt; is_wanted(&read, wanted), "{line}");
+        assert!(rt; is_wanted(&read, *wanted), "{line}");
     }
 }
 
 #[test]
 fn lines_that_ask_for_nothing(rt: HostRuntime) {
     let alloc = rt.alloc();
-    for line in REFUSED {
+    for line in &REFUSED {
         let words = words_of(&rt, alloc, line);
         let read = read_words(alloc, &words).expect(&rt, "memory");
         assert!(rt; read.is_none(), "{line}");
@@ -233,26 +233,30 @@ fn is_device(devices: &Devices, dials: bool, count: u32, at: &str, file: Option<
     }
 }
 
+/// Words that are separated by bars, and what they want: whether a dial, how many wires, the
+/// address and the file.
+static DEVICES: [(&str, bool, u32, &str, Option<&str>); 6] = [
+    ("join|a:1|ann", true, 0, "a:1", None),
+    ("serve|a:1|--workers|2|--conns|3", false, 2, "a:1", None),
+    (
+        "serve|a:1|--journal|b|--workers|2",
+        false,
+        2,
+        "a:1",
+        Some("b"),
+    ),
+    ("play|--at|3", false, 0, "", None),
+    ("join|a:1", false, 0, "", None),
+    ("serve|a:1|--workers|0|--journal|b", false, 0, "", None),
+];
+
 #[test]
 fn devices_of_lines(rt: HostRuntime) {
     let alloc = rt.alloc();
-    for (line, dials, count, at, file) in [
-        ("join|a:1|ann", true, 0, "a:1", None),
-        ("serve|a:1|--workers|2|--conns|3", false, 2, "a:1", None),
-        (
-            "serve|a:1|--journal|b|--workers|2",
-            false,
-            2,
-            "a:1",
-            Some("b"),
-        ),
-        ("play|--at|3", false, 0, "", None),
-        ("join|a:1", false, 0, "", None),
-        ("serve|a:1|--workers|0|--journal|b", false, 0, "", None),
-    ] {
+    for (line, dials, count, at, file) in &DEVICES {
         let words = words_of(&rt, alloc, line);
         let devices = wanted(alloc, &words).expect(&rt, "memory");
-        assert!(rt; is_device(&devices, dials, count, at, file), "{line}");
+        assert!(rt; is_device(&devices, *dials, *count, at, *file), "{line}");
     }
 }
 
@@ -311,10 +315,10 @@ fn numbers_of(rt: &impl Abort, alloc: Global, line: &str, id: &str) -> Option<Ve
 #[test]
 fn forms_of_a_table(rt: HostRuntime) {
     several_words_are_found();
-    for (line, id, wanted) in NUMBERS {
+    for (line, id, wanted) in &NUMBERS {
         let numbers = numbers_of(&rt, rt.alloc(), line, id);
         let same = match (&numbers, wanted) {
-            (Some(numbers), Some(wanted)) => numbers.as_slice() == wanted,
+            (Some(numbers), Some(wanted)) => numbers.as_slice() == *wanted,
             (None, None) => true,
             _ => false,
         };
