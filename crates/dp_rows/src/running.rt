@@ -61,11 +61,16 @@ fn put_run<R: Threads + Wait + Sync>(
     rt: &R,
     alloc: Global,
     row: &Row,
-    mut streams: Streams<'_>,
+    streams: Streams<'_>,
     wires: RowWires,
     keeper: MemKeeper,
     answer: &mut Answer,
 ) -> Result<(), AllocError> {
+    let Streams {
+        mut input,
+        mut output,
+        mut diag,
+    } = streams;
     let RowWires { wires, sent } = wires;
     let gate = RowGate::new(row.hold);
     let host = Host {
@@ -76,26 +81,27 @@ fn put_run<R: Threads + Wait + Sync>(
     let left = outcome_over(
         host,
         &row.words,
-        &mut streams.input,
-        &mut streams.output,
-        &mut streams.diag,
+        &mut input,
+        &mut output,
+        &mut diag,
         Resources { wires, keeper },
     );
     answer.status = left.status;
-    put_left(alloc, &left, &streams, &gate, &sent, answer)
+    put_left(alloc, &left, &output, &diag, &gate, &sent, answer)
 }
 
 /// Puts what a run left into an answer, also of the gate. Then a line if a pause was given up.
 fn put_left(
     alloc: Global,
     left: &Left<RowWire, MemKeeper>,
-    streams: &Streams<'_>,
+    output: &MemSink,
+    diag: &MemSink,
     gate: &RowGate,
     sent: &Sent,
     answer: &mut Answer,
 ) -> Result<(), AllocError> {
-    answer.output.extend_from_slice(streams.output.as_slice())?;
-    answer.said.extend_from_slice(streams.diag.as_slice())?;
+    answer.output.extend_from_slice(output.as_slice())?;
+    answer.said.extend_from_slice(diag.as_slice())?;
     put_sent_on(&left.wires, &mut answer.sent)?;
     put_reports(alloc, left, &mut answer.left)?;
     put_kept(&left.keeper, &mut answer.left)?;
@@ -137,10 +143,14 @@ fn piece_of(tried: Tried<'_>) -> usize
 /// The numbers of the calls of an object that fail.
 fn calls_of(alloc: Global, tried: Tried<'_>, object: Object) -> Result<Vec<u64>, AllocError> {
     let mut calls = Vec::new(alloc);
-    for fail in tried.row.fails.iter().chain(tried.more.iter()) {
+    for fail in &tried.row.fails {
         if fail.object == object {
             calls.push(fail.call)?;
         }
+    }
+    match tried.more {
+        Some(fail) if fail.object == object => calls.push(fail.call)?,
+        _ => {}
     }
     Ok(calls)
 }
