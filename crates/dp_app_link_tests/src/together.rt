@@ -83,9 +83,9 @@ fn check<R: Threads + Wait + Sync + Abort, W: Wire + Send + Drop>(
     let mut output = MemSink::new(alloc, 1000, 64, Vec::new(alloc)).expect(rt, "memory");
     let mut diag = MemSink::new(alloc, 1000, 64, Vec::new(alloc)).expect(rt, "memory");
     let left = outcome_of(rt, alloc, words, &mut input, &mut output, &mut diag, wires);
-    assert_eq!(rt; diag.as_slice(), b"".as_slice());
-    assert_eq!(rt; left.status, 0);
-    assert_eq!(rt; output.as_slice(), printed.as_bytes());
+    assert!(rt; diag.as_slice() == b"".as_slice());
+    assert!(rt; left.status == 0);
+    assert!(rt; output.as_slice() == printed.as_bytes());
 }
 
 /// The words of a line, and the wires for them.

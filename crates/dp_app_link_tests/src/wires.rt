@@ -28,8 +28,8 @@ fn check_link<N: Net<Listener = TcpListener, Stream = TcpStream> + Copy + Drop +
     let accepted = serving.accept().ok().expect(rt, "no fault");
     let (mut far_rx, far_tx) = accepted.expect(rt, "a link");
     let mut buf = [0; 8];
-    assert_eq!(rt; near_tx.write(b"ping"), Ok(4));
-    assert_eq!(rt; far_rx.read(&mut buf), Ok(4));
+    assert!(rt; near_tx.write(b"ping") == Ok(4));
+    assert!(rt; far_rx.read(&mut buf) == Ok(4));
     serving.done(far_rx, far_tx);
     joining.done(near_rx, near_tx);
 }
@@ -37,14 +37,14 @@ fn check_link<N: Net<Listener = TcpListener, Stream = TcpStream> + Copy + Drop +
 #[test]
 fn words_have_their_wires(rt: HostRuntime) {
     let mut serving = wires_of(&rt, rt.alloc(), "serve 127.0.0.1:0 --workers 2");
-    assert_eq!(rt; serving.len(), 2);
+    assert!(rt; serving.len() == 2);
     let mut wire = serving.pop().expect(&rt, "a wire");
     let port = wire.port().expect(&rt, "a port");
     let line = format!(in rt.alloc(); "join 127.0.0.1:{port} ann").expect(&rt, "memory");
     let mut joining = wires_of(&rt, rt.alloc(), line.as_str());
-    assert_eq!(rt; joining.len(), 1);
+    assert!(rt; joining.len() == 1);
     let mut dialer = joining.pop().expect(&rt, "a wire");
     check_link(&rt, &mut wire, &mut dialer);
-    assert_eq!(rt; wires_of(&rt, rt.alloc(), "play").len(), 0);
-    assert_eq!(rt; wires_of(&rt, rt.alloc(), line.as_str()).len(), 1);
+    assert!(rt; wires_of(&rt, rt.alloc(), "play").len() == 0);
+    assert!(rt; wires_of(&rt, rt.alloc(), line.as_str()).len() == 1);
 }

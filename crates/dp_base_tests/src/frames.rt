@@ -31,8 +31,8 @@ fn take_frames(rt: &impl Abort, splitter: &mut Splitter, mut seen: usize) -> usi
         assert!(rt; seen < expected.len());
         let (kind, start, end) = expected[seen];
         assert!(rt; start <= end && end <= STREAM.len());
-        assert_eq!(rt; (frame.kind(), frame.user()), (kind, 1));
-        assert_eq!(rt; frame.body().as_slice(), &STREAM[start..end]);
+        assert!(rt; (frame.kind(), frame.user()) == (kind, 1));
+        assert!(rt; frame.body().as_slice() == &STREAM[start..end]);
         seen += 1;
     }
     seen
@@ -49,8 +49,8 @@ fn the_frames_do_not_depend_on_the_pieces(rt: HostRuntime) {
                 feed(&rt, &mut splitter, piece);
                 seen = take_frames(&rt, &mut splitter, seen);
             }
-            assert_eq!(rt; seen, frames, "pieces of {piece_len} of {end} bytes");
-            assert_eq!(rt; (splitter.at(), splitter.rest_len()), (at, rest));
+            assert!(rt; seen == frames, "pieces of {piece_len} of {end} bytes");
+            assert!(rt; (splitter.at(), splitter.rest_len()) == (at, rest));
         }
     }
 }
@@ -68,11 +68,11 @@ fn frames_are_written_as_they_are_read(rt: HostRuntime) {
             .expect(&rt, "a frame");
         write_frame(&frame, &mut out).expect(&rt, "memory");
     }
-    assert_eq!(rt; out.as_slice(), STREAM.as_slice());
+    assert!(rt; out.as_slice() == STREAM.as_slice());
     let copy = out.copy().expect(&rt, "memory");
-    assert_eq!(rt; copy.as_slice(), STREAM.as_slice());
+    assert!(rt; copy.as_slice() == STREAM.as_slice());
     out.append(&[7]).expect(&rt, "memory");
-    assert_eq!(rt; out.len(), 57);
+    assert!(rt; out.len() == 57);
 }
 
 #[test]
@@ -85,8 +85,8 @@ fn payloads_of_the_least_and_greatest_length(rt: HostRuntime) {
         let mut out = Octets::new(rt.alloc());
         let frame = Frame::new(0x80, 1, Octets::from_vec(body));
         write_frame(&frame, &mut out).expect(&rt, "memory");
-        assert_eq!(rt; out.len(), len + 4);
-        assert_eq!(rt; &out.as_slice()[..4], header.as_slice());
+        assert!(rt; out.len() == len + 4);
+        assert!(rt; &out.as_slice()[..4] == header.as_slice());
 
         let mut splitter = Splitter::new(rt.alloc());
         feed(&rt, &mut splitter, out.as_slice());
@@ -94,11 +94,8 @@ fn payloads_of_the_least_and_greatest_length(rt: HostRuntime) {
             .take_frame()
             .expect(&rt, "memory")
             .expect(&rt, "a frame");
-        assert_eq!(rt;
-            (frame.kind(), frame.user(), frame.body().len()),
-            (0x80, 1, len)
-        );
+        assert!(rt; (frame.kind(), frame.user(), frame.body().len()) == (0x80, 1, len));
         assert!(rt; frame.body().as_slice().iter().all(|byte| *byte == 9));
-        assert_eq!(rt; splitter.rest_len(), 0);
+        assert!(rt; splitter.rest_len() == 0);
     }
 }

@@ -60,7 +60,7 @@ fn gives_up<R: Threads + Sync + Abort>(rt: &R, workers: u32) -> bool {
     };
     let mut jobs = [Counts { runs: 6 }; 8];
     par_each(rt, workers, &gate, &mut jobs);
-    assert_eq!(rt; jobs, [Counts { runs: 7 }; 8]);
+    assert!(rt; jobs == ([Counts { runs: 7 }; 8]));
     gate.gave_up.load(Ordering::SeqCst) == 1
 }
 

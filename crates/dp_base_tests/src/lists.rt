@@ -6,11 +6,11 @@ use dp_lists::{Listed, items_are_numbered, prefix_of, rest_of};
 fn lists_and_their_pieces(rt: HostRuntime) {
     let bytes = Vec::from_slice(rt.alloc(), &[3u8, 1, 4]).expect(&rt, "memory");
     let list = Listed::from_vec(bytes);
-    assert_eq!(rt; list.as_slice(), [3, 1, 4].as_slice());
-    assert_eq!(rt; rest_of(list.as_slice(), 1), [1, 4].as_slice());
+    assert!(rt; list.as_slice() == [3, 1, 4].as_slice());
+    assert!(rt; rest_of(list.as_slice(), 1) == [1, 4].as_slice());
     assert!(rt; rest_of(list.as_slice(), 4).is_empty());
-    assert_eq!(rt; prefix_of(list.as_slice(), 2), [3, 1].as_slice());
-    assert_eq!(rt; prefix_of(list.as_slice(), 9), [3, 1, 4].as_slice());
+    assert!(rt; prefix_of(list.as_slice(), 2) == [3, 1].as_slice());
+    assert!(rt; prefix_of(list.as_slice(), 9) == [3, 1, 4].as_slice());
     items_are_numbered::<u8>();
     let mut bytes = Listed::<u8>::new(rt.alloc());
     assert!(rt; bytes.as_slice().is_empty() && bytes.is_empty());
@@ -18,6 +18,6 @@ fn lists_and_their_pieces(rt: HostRuntime) {
     bytes.append(&[2, 3]).expect(&rt, "memory");
     bytes.append_both(&[4], &[5]).expect(&rt, "memory");
     let copy = bytes.copy().expect(&rt, "memory");
-    assert_eq!(rt; copy.as_slice(), [1, 2, 3, 4, 5].as_slice());
-    assert_eq!(rt; bytes.len(), 5);
+    assert!(rt; copy.as_slice() == [1, 2, 3, 4, 5].as_slice());
+    assert!(rt; bytes.len() == 5);
 }

@@ -71,13 +71,13 @@ fn bytes_go_both_ways(rt: HostRuntime) {
     let (mut near_rx, mut near_tx) = dialed(&rt, &mut dialer);
     let (mut far_rx, mut far_tx) = accepted(&rt, &mut wire);
     let mut buf = [0; 9];
-    assert_eq!(rt; near_tx.write(b"ping"), Ok(4));
-    assert_eq!(rt; far_rx.read(&mut buf), Ok(4));
-    assert_eq!(rt; far_tx.write(&buf[..4]), Ok(4));
+    assert!(rt; near_tx.write(b"ping") == Ok(4));
+    assert!(rt; far_rx.read(&mut buf) == Ok(4));
+    assert!(rt; far_tx.write(&buf[..4]) == Ok(4));
     wire.done(far_rx, far_tx);
-    assert_eq!(rt; near_rx.read(&mut buf), Ok(4));
-    assert_eq!(rt; &buf[..4], b"ping".as_slice());
-    assert_eq!(rt; near_rx.read(&mut buf), Ok(0), "the other end is done");
+    assert!(rt; near_rx.read(&mut buf) == Ok(4));
+    assert!(rt; &buf[..4] == b"ping".as_slice());
+    assert!(rt; near_rx.read(&mut buf) == Ok(0), "the other end is done");
 }
 
 #[test]
@@ -87,7 +87,7 @@ fn a_dial_is_refused(rt: HostRuntime) {
     drop(wire);
     drop(other);
     let mut dialer = dialer(&rt, rt.alloc(), port);
-    assert_eq!(rt; dialer.dial().err(), Some(WireError::Failed));
+    assert!(rt; dialer.dial().err() == Some(WireError::Failed));
 }
 
 /// Hands out a listener and a stream that the test has too.
@@ -131,7 +131,7 @@ fn a_listener_is_shut(rt: HostRuntime) {
     let same = listener.try_clone().expect(&rt, "a listener");
     let socket = TcpStream::from(OwnedFd::from(same));
     socket.shutdown(Shutdown::Both).expect(&rt, "shut");
-    assert_eq!(rt; wire.accept().err(), Some(WireError::Failed));
+    assert!(rt; wire.accept().err() == Some(WireError::Failed));
 }
 
 // The peer has sent all, and still reads.
@@ -140,22 +140,22 @@ fn a_peer_closes_its_half(rt: HostRuntime) {
     let (mut peer, mut rx, mut tx) = link(&rt, rt.alloc());
     peer.shutdown(Shutdown::Write).expect(&rt, "shut");
     let mut buf = [0; 9];
-    assert_eq!(rt; rx.read(&mut buf), Ok(0));
-    assert_eq!(rt; tx.write(b"so long"), Ok(7));
+    assert!(rt; rx.read(&mut buf) == Ok(0));
+    assert!(rt; tx.write(b"so long") == Ok(7));
     let count = io::Read::read(&mut peer, &mut buf).expect(&rt, "bytes");
-    assert_eq!(rt; count, 7);
+    assert!(rt; count == 7);
 }
 
 // A peer that closes with bytes unread resets the link.
 #[test]
 fn a_peer_resets(rt: HostRuntime) {
     let (mut peer, mut rx, mut tx) = link(&rt, rt.alloc());
-    assert_eq!(rt; tx.write(b"two"), Ok(3));
+    assert!(rt; tx.write(b"two") == Ok(3));
     let count = io::Read::read(&mut peer, &mut [0]).expect(&rt, "a byte");
-    assert_eq!(rt; count, 1);
+    assert!(rt; count == 1);
     drop(peer);
-    assert_eq!(rt; rx.read(&mut [0]), Err(Failed));
-    assert_eq!(rt; tx.write(b"more"), Err(Failed));
+    assert!(rt; rx.read(&mut [0]) == Err(Failed));
+    assert!(rt; tx.write(b"more") == Err(Failed));
 }
 
 // What a peer sent and nobody read resets no link: the peer gets the last bytes, and then the end.
@@ -166,14 +166,14 @@ fn a_link_is_closed_with_bytes_unread(rt: HostRuntime) {
     let mut peer = TcpStream::connect(&rt, (Ipv4Addr::LOCALHOST, port)).expect(&rt, "a peer");
     let (rx, mut tx) = accepted(&rt, &mut wire);
     let count = io::Write::write(&mut peer, b"unread").expect(&rt, "bytes");
-    assert_eq!(rt; count, 6);
-    assert_eq!(rt; tx.write(b"last"), Ok(4));
+    assert!(rt; count == 6);
+    assert!(rt; tx.write(b"last") == Ok(4));
     wire.done(rx, tx);
     let mut buf = [0; 9];
     let count = io::Read::read(&mut peer, &mut buf).expect(&rt, "bytes");
-    assert_eq!(rt; count, 4);
+    assert!(rt; count == 4);
     let count = io::Read::read(&mut peer, &mut buf).expect(&rt, "no reset");
-    assert_eq!(rt; count, 0);
+    assert!(rt; count == 0);
 }
 
 /// Writes until a write fails, or 2^18 writes were made.
@@ -191,9 +191,9 @@ fn fill(mut tx: TcpTx) -> bool {
 fn check_settings(rt: &impl Abort, stream: &TcpStream) {
     assert!(rt; stream.nodelay().expect(rt, "nodelay"));
     let limit = stream.write_timeout().expect(rt, "the limit of writes");
-    assert_eq!(rt; limit, Some(Duration::from_secs(30)));
+    assert!(rt; limit == Some(Duration::from_secs(30)));
     let limit = stream.read_timeout().expect(rt, "the limit of reads");
-    assert_eq!(rt; limit, None);
+    assert!(rt; limit == None);
 }
 
 // If the peer stops reading, a write fails in the end, and lets go of the thread that reads. A
@@ -215,6 +215,6 @@ fn a_peer_stops_reading(rt: HostRuntime) {
     stream.set_write_timeout(limit).expect(&rt, "a limit");
     let (read, failed) = thread::join(&rt, move || rx.read(&mut [0]), move || fill(tx));
     assert!(rt; failed);
-    assert_eq!(rt; read, Ok(0));
+    assert!(rt; read == Ok(0));
     drop(peer);
 }

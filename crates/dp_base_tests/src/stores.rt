@@ -13,17 +13,17 @@ fn row(rt: &impl Abort, alloc: Global, number: u8) -> Row {
 
 /// Checks the numbers of rows.
 fn check(rt: &impl Abort, rows: &Rows, numbers: &[u8]) {
-    assert_eq!(rt; rows.as_slice().len(), numbers.len());
+    assert!(rt; rows.as_slice().len() == numbers.len());
     for (row, number) in rows.as_slice().iter().zip(numbers) {
-        assert_eq!(rt; row.n, u64::from(*number));
-        assert_eq!(rt; row.bytes.as_slice(), [*number].as_slice());
+        assert!(rt; row.n == u64::from(*number));
+        assert!(rt; row.bytes.as_slice() == [*number].as_slice());
     }
 }
 
 /// Puts three rows, and reads pages of them.
 fn put_and_read<K: Keeper>(rt: &impl Abort, alloc: Global, keeper: &mut K) {
     for n in 0..3 {
-        assert_eq!(rt; keeper.put(&row(rt, alloc, n)), Ok(()));
+        assert!(rt; keeper.put(&row(rt, alloc, n)) == Ok(()));
     }
     for (from, max, numbers) in [
         (0, 9, [0, 1, 2].as_slice()),
@@ -34,7 +34,7 @@ fn put_and_read<K: Keeper>(rt: &impl Abort, alloc: Global, keeper: &mut K) {
         let page = keeper.rows(from, max).expect(rt, "a page");
         check(rt, &page, numbers);
     }
-    assert_eq!(rt; keeper.count(), 0);
+    assert!(rt; keeper.count() == 0);
 }
 
 #[test]
@@ -58,9 +58,9 @@ fn listed_calls_fail(rt: HostRuntime) {
         (2, Err(KeepError::Failed)),
         (3, Ok(())),
     ] {
-        assert_eq!(rt; keeper.put(&row(&rt, alloc, n)), answer);
+        assert!(rt; keeper.put(&row(&rt, alloc, n)) == answer);
     }
-    assert_eq!(rt; keeper.rows(0, 1).err(), Some(KeepError::Failed));
-    assert_eq!(rt; keeper.count(), 2);
+    assert!(rt; keeper.rows(0, 1).err() == Some(KeepError::Failed));
+    assert!(rt; keeper.count() == 2);
     check(&rt, keeper.held(), &[0, 2, 3]);
 }

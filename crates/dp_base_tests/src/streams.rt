@@ -38,7 +38,10 @@ fn pieces_of_any_length_give_the_same(rt: HostRuntime) {
     for piece in 1..9 {
         let mut source = MemSource::new(list(&rt, alloc, &BYTES), piece, Vec::new(alloc));
         let bytes = read_all(&rt, alloc, &mut source);
-        assert_eq!(rt; bytes.as_slice(), BYTES.as_slice(), "in pieces of {piece}");
+        assert!(rt;
+            bytes.as_slice() == BYTES.as_slice(),
+            "in pieces of {piece}"
+        );
     }
 }
 
@@ -58,7 +61,7 @@ fn a_source_fails_at_the_listed_calls(rt: HostRuntime) {
         Ok(0),
     ];
     for want in wants {
-        assert_eq!(rt; source.read(&mut buf), want);
+        assert!(rt; source.read(&mut buf) == want);
     }
 }
 
@@ -69,7 +72,7 @@ fn a_sure_source_gives_no_fault(rt: HostRuntime) {
     let mut buf = [0; 4];
     for want in [4, 3, 0] {
         match read_once(&mut source, &mut buf) {
-            Ok(count) => assert_eq!(rt; count, want),
+            Ok(count) => assert!(rt; count == want),
             Err(_) => unreachable!(),
         }
     }
@@ -81,9 +84,9 @@ fn a_sink_is_full(rt: HostRuntime) {
     let pieces: [&[u8]; 4] = [&[7, 8, 9], &[9, 6], &[6], &[]];
     let wants = [Ok(2), Ok(1), Err(Failed), Ok(0)];
     for (piece, want) in pieces.iter().zip(wants) {
-        assert_eq!(rt; sink.write(piece), want);
+        assert!(rt; sink.write(piece) == want);
     }
-    assert_eq!(rt; sink.as_slice(), [7, 8, 9].as_slice());
+    assert!(rt; sink.as_slice() == [7, 8, 9].as_slice());
 }
 
 // For each room and failing call: whether all was written, and how much.
@@ -99,8 +102,8 @@ fn put_all_writes_a_prefix(rt: HostRuntime) {
     for (room, fail, want, written) in cases {
         let fails = list(&rt, alloc, &[fail]);
         let mut sink = MemSink::new(alloc, room, 2, fails).expect(&rt, "memory");
-        assert_eq!(rt; put_all(&mut sink, &BYTES), want);
-        assert_eq!(rt; sink.as_slice(), &BYTES[..written]);
+        assert!(rt; put_all(&mut sink, &BYTES) == want);
+        assert!(rt; sink.as_slice() == &BYTES[..written]);
     }
 }
 
@@ -109,14 +112,14 @@ fn adapters_pass_the_bytes_on(rt: HostRuntime) {
     let alloc = rt.alloc();
     let mut source = StdSource::new(BYTES.as_slice());
     let mut prefix = [0; 3];
-    assert_eq!(rt; source.read(&mut prefix), Ok(3));
-    assert_eq!(rt; prefix, [3, 1, 4]);
+    assert!(rt; source.read(&mut prefix) == Ok(3));
+    assert!(rt; prefix == [3, 1, 4]);
     let mut source = StdSource::new(source.into_inner());
     let bytes = read_all(&rt, alloc, &mut source);
-    assert_eq!(rt; bytes.as_slice(), [1, 5, 9, 2].as_slice());
+    assert!(rt; bytes.as_slice() == [1, 5, 9, 2].as_slice());
     let mut sink = StdSink::new(Vec::new(alloc));
-    assert_eq!(rt; put_all(&mut sink, &BYTES), Ok(()));
-    assert_eq!(rt; sink.into_inner().as_slice(), BYTES.as_slice());
+    assert!(rt; put_all(&mut sink, &BYTES) == Ok(()));
+    assert!(rt; sink.into_inner().as_slice() == BYTES.as_slice());
 }
 
 // A writer that takes nothing has failed.
@@ -124,7 +127,7 @@ fn adapters_pass_the_bytes_on(rt: HostRuntime) {
 fn a_full_writer_fails(rt: HostRuntime) {
     let mut room = [0; 2];
     let mut sink = StdSink::new(room.as_mut_slice());
-    assert_eq!(rt; sink.write(&[5, 6, 7]), Ok(2));
-    assert_eq!(rt; sink.write(&[7]), Err(Failed));
-    assert_eq!(rt; sink.write(&[]), Ok(0));
+    assert!(rt; sink.write(&[5, 6, 7]) == Ok(2));
+    assert!(rt; sink.write(&[7]) == Err(Failed));
+    assert!(rt; sink.write(&[]) == Ok(0));
 }

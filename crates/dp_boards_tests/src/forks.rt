@@ -263,9 +263,8 @@ fn check_script<D: Ledger, T: Ledger>(
     };
     for (place, letters) in script.split_whitespace().enumerate() {
         step(rt, &mut painter, (letters, place), quietly, draws, tiles);
-        assert_eq!(rt;
-            painter.fork.pending_len(),
-            painter.said.len(),
+        assert!(rt;
+            painter.fork.pending_len() == painter.said.len(),
             "{letters} in {script}"
         );
         let view = painter.fork.view(painter.confirmed.board());

@@ -106,7 +106,10 @@ fn check_script<D: Ledger, T: Ledger>(
         let change = take(&mut rollback, &act, draws, tiles).expect(rt, "memory");
         if let Some(changes) = changes {
             let wanted = changes.as_bytes().get(k).copied();
-            assert_eq!(rt; Some(letter(change)), wanted, "{k} of {script} at {depth}");
+            assert!(rt;
+                Some(letter(change)) == wanted,
+                "{k} of {script} at {depth}"
+            );
         }
         acts.push(act).expect(rt, "memory");
         let (numbers, wanted) = (
@@ -240,7 +243,7 @@ fn check_saves<D: Ledger, T: Ledger>(
         replayed(rt, alloc, 30, &acts),
     );
     assert!(rt; numbers == wanted);
-    assert_eq!(rt; numbers[1], 2);
+    assert!(rt; numbers[1] == 2);
 }
 
 /// Has a board trail some two thousand acts, many more than it holds, and compares at the end.

@@ -121,9 +121,8 @@ fn check_rows<B: Board<Op = Draw> + BoardView, D: Ledger, T: Ledger>(
     tiles: &mut Steps<T>,
 ) {
     let (confirmed, view) = wanted(rt, painter, draws, tiles);
-    assert_eq!(rt;
-        painter.screen.pending_len(),
-        painter.said.len(),
+    assert!(rt;
+        painter.screen.pending_len() == painter.said.len(),
         "{letters}"
     );
     assert!(rt;

@@ -110,7 +110,7 @@ fn drawn_commands(rt: HostRuntime) {
         }
         push_acts(&rt, &mut acts, last);
         let flags = drawn_flags(rt.alloc(), *depth, &acts).expect(&rt, "memory");
-        assert_eq!(rt; flags.len(), acts.len());
+        assert!(rt; flags.len() == acts.len());
         assert!(rt;
             is_as_expected(&acts, &flags),
             "{first}, {points} points, {last} at {depth}"
@@ -134,7 +134,7 @@ fn many(rt: HostRuntime) {
         push_acts(&rt, &mut acts, moves);
     }
     let flags = drawn_flags(rt.alloc(), 30, &acts).expect(&rt, "memory");
-    assert_eq!(rt; flags.iter().filter(|flag| **flag).count(), 83_330);
+    assert!(rt; flags.iter().filter(|flag| **flag).count() == 83_330);
 }
 
 /// An act of user 1.
@@ -160,7 +160,7 @@ fn without_commands(rt: HostRuntime) {
         of_one(Act::Draw(())),
     ];
     let flags = drawn_flags(rt.alloc(), 30, &acts).expect(&rt, "memory");
-    assert_eq!(rt; flags.as_slice(), [false, false, false, true].as_slice());
+    assert!(rt; flags.as_slice() == [false, false, false, true].as_slice());
 }
 
 /// The digit of a group, of which there are few.
@@ -186,19 +186,17 @@ fn check_moves(
     in_place: bool,
 ) {
     let mut table = StrokeTable::new(alloc, 2).expect(rt, "memory");
-    assert_eq!(rt; (table.position(), table.oldest()), (0, 0));
+    assert!(rt; (table.position(), table.oldest()) == (0, 0));
     for (k, word) in script.split_whitespace().enumerate() {
         let act = act_of(rt, word);
         let moved = table.moved(&act).map_or(b'-', digit);
-        assert_eq!(rt;
-            moves.as_bytes().get(k).copied(),
-            Some(moved),
+        assert!(rt;
+            moves.as_bytes().get(k).copied() == Some(moved),
             "{k} of {script}"
         );
         let joined = joined(table.join_of(&act));
-        assert_eq!(rt;
-            joins.as_bytes().get(k).copied(),
-            Some(joined),
+        assert!(rt;
+            joins.as_bytes().get(k).copied() == Some(joined),
             "{k} of {script}"
         );
         let taken = if in_place {

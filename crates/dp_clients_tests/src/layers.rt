@@ -41,13 +41,13 @@ fn contents_are_put_in(rt: HostRuntime) {
     let alloc = rt.alloc();
     let mut tree = forest(&rt, alloc);
     assert!(rt; tree.content(13).is_some());
-    assert_eq!(rt; tree.put_content(13, 99), 13);
-    assert_eq!(rt; tree.content(13), Some(&99));
-    assert_eq!(rt; tree.content(12), None);
+    assert!(rt; tree.put_content(13, 99) == 13);
+    assert!(rt; tree.content(13) == Some(&99));
+    assert!(rt; tree.content(12) == None);
     if let Some(content) = tree.content_mut(11) {
         *content = 8;
     }
-    assert_eq!(rt; tree.content(11), Some(&8));
+    assert!(rt; tree.content(11) == Some(&8));
     assert!(rt; tree.content_mut(12).is_none());
 }
 
@@ -56,18 +56,15 @@ fn shared_rows_change_apart(rt: HostRuntime) {
     let alloc = rt.alloc();
     let mut tree = forest(&rt, alloc);
     let contents = [1, 2, 3].to_vec(alloc).expect(&rt, "memory");
-    assert_eq!(rt;
-        tree.rows().iter().filter(|row| !row.group).count(),
-        contents.len()
-    );
+    assert!(rt; tree.rows().iter().filter(|row| !row.group).count() == contents.len());
     let other = tree.remake(contents).expect(&rt, "memory");
     let held = [11, 13, 20].map(|id| other.content(id).copied());
-    assert_eq!(rt; held, [Some(1), Some(2), Some(3)]);
+    assert!(rt; held == [Some(1), Some(2), Some(3)]);
     assert!(rt; other.rows() == tree.rows());
     let delete = Draw::LayerDelete { id: 10 };
     assert!(rt; tree.delete(&delete).expect(&rt, "memory"));
-    assert_eq!(rt; (tree.rows().len(), other.rows().len()), (2, 6));
-    assert_eq!(rt; (paint_rows(&tree), paint_rows(&other)), (1, 3));
+    assert!(rt; (tree.rows().len(), other.rows().len()) == (2, 6));
+    assert!(rt; (paint_rows(&tree), paint_rows(&other)) == (1, 3));
 }
 
 /// A mode that isn't listed has no effect. No payload spells one.

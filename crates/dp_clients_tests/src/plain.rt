@@ -79,10 +79,10 @@ fn check_upper_row<B: BoardView>(rt: &impl Abort, alloc: Global, board: &B, want
     assert!(rt; rows.len() == 1);
     let row = &rows[0];
     assert!(rt; !row.group);
-    assert_eq!(rt; upper_row(rt, alloc, board, row.id).as_str(), want);
-    assert_eq!(rt; board.pixel(row.id, 0, 0).map(letter), Some('R'));
+    assert!(rt; upper_row(rt, alloc, board, row.id).as_str() == want);
+    assert!(rt; board.pixel(row.id, 0, 0).map(letter) == Some('R'));
     assert!(rt; board.pixel(row.id, 2, 0).is_none());
-    assert_eq!(rt; board.background(), 0);
+    assert!(rt; board.background() == 0);
 }
 
 /// A second board is equal, and stays as it is when the first one changes.

@@ -16,10 +16,10 @@ fn put(rt: &impl Abort, alloc: Global, store: &mut SqlKeeper, number: u8) -> Res
 /// Reads the rows from a number on, and checks them and how many they are.
 fn read(rt: &impl Abort, store: &mut SqlKeeper, from: u8, max: u32, count: usize) {
     let page = store.rows(u64::from(from), max).expect(rt, "a page");
-    assert_eq!(rt; page.as_slice().len(), count);
+    assert!(rt; page.as_slice().len() == count);
     for (row, number) in page.as_slice().iter().zip(from..) {
-        assert_eq!(rt; row.n, u64::from(number));
-        assert_eq!(rt; row.bytes.as_slice(), [number].as_slice());
+        assert!(rt; row.n == u64::from(number));
+        assert!(rt; row.bytes.as_slice() == [number].as_slice());
     }
 }
 
@@ -32,14 +32,14 @@ fn rows_in_a_file(rt: HostRuntime) {
     fs::create_dir(&rt, "rows_in_a_file").expect(&rt, "a folder");
     let mut store = SqlKeeper::new(&rt, path).expect(&rt, "a new file");
     for number in 0..3 {
-        assert_eq!(rt; put(&rt, rt.alloc(), &mut store, number), Ok(()));
+        assert!(rt; put(&rt, rt.alloc(), &mut store, number) == Ok(()));
     }
     for (from, max, count) in [(0, 9, 3), (1, 1, 1), (2, 0, 0), (3, 4, 0)] {
         read(&rt, &mut store, from, max, count);
     }
-    assert_eq!(rt; SqlKeeper::new(&rt, path).err(), Some(KeepError::Failed));
-    assert_eq!(rt; put(&rt, rt.alloc(), &mut store, 1), Err(KeepError::Failed));
-    assert_eq!(rt; store.count(), 1);
+    assert!(rt; SqlKeeper::new(&rt, path).err() == Some(KeepError::Failed));
+    assert!(rt; put(&rt, rt.alloc(), &mut store, 1) == Err(KeepError::Failed));
+    assert!(rt; store.count() == 1);
 }
 
 // A file that is closed and opened again, three times.
@@ -50,9 +50,9 @@ fn a_file_that_is_opened_again(rt: HostRuntime) {
     fs::create_dir(&rt, "a_file_that_is_opened_again").expect(&rt, "a folder");
     let mut store = SqlKeeper::new(&rt, path).expect(&rt, "a new file");
     for number in 0..3 {
-        assert_eq!(rt; put(&rt, rt.alloc(), &mut store, number), Ok(()));
+        assert!(rt; put(&rt, rt.alloc(), &mut store, number) == Ok(()));
         read(&rt, &mut store, 0, 9, usize::from(number) + 1);
-        assert_eq!(rt; store.close(), Ok(()));
+        assert!(rt; store.close() == Ok(()));
         store = SqlKeeper::new(&rt, path).expect(&rt, "the file");
     }
     read(&rt, &mut store, 0, 9, 3);

@@ -33,25 +33,22 @@ fn blends_in_each_mode(rt: HostRuntime) {
         (Mode::Recolor, (12288, 4096, 0, 16384)),
         (Mode::Replace, (0, 8192, 0, 8192)),
     ] {
-        assert_eq!(rt; blend(mode, src, dst), pixel(&rt, want), "at {mode:?}");
+        assert!(rt; blend(mode, src, dst) == pixel(&rt, want), "at {mode:?}");
     }
 }
 
 #[test]
 fn blends_a_half_red_on_white(rt: HostRuntime) {
     let red = of_argb(0x80ff_0000);
-    assert_eq!(rt; red, pixel(&rt, (16448, 0, 0, 16448)));
+    assert!(rt; red == pixel(&rt, (16448, 0, 0, 16448)));
     let white = of_argb(0xffff_ffff);
-    assert_eq!(rt; white, pixel(&rt, (32768, 32768, 32768, 32768)));
-    assert_eq!(rt; white, Pixel::WHITE);
+    assert!(rt; white == pixel(&rt, (32768, 32768, 32768, 32768)));
+    assert!(rt; white == Pixel::WHITE);
     let shown = blend(Mode::Normal, red, white);
-    assert_eq!(rt;
-        (to8(shown.r()), to8(shown.g()), to8(shown.b())),
-        (0xff, 0x7f, 0x7f)
-    );
-    assert_eq!(rt; of_argb(0x00ff_ffff), Pixel::default());
-    assert_eq!(rt; of_argb(0x00ff_ffff), Pixel::CLEAR);
-    assert_eq!(rt; of_argb(0xff01_0203), pixel(&rt, (129, 257, 386, 32768)));
+    assert!(rt; (to8(shown.r()), to8(shown.g()), to8(shown.b())) == (0xff, 0x7f, 0x7f));
+    assert!(rt; of_argb(0x00ff_ffff) == Pixel::default());
+    assert!(rt; of_argb(0x00ff_ffff) == Pixel::CLEAR);
+    assert!(rt; of_argb(0xff01_0203) == pixel(&rt, (129, 257, 386, 32768)));
 }
 
 /// A row of five pixels: four are put at a time, and then the last one.
@@ -73,17 +70,17 @@ fn puts_the_bytes_of_a_row_on_white(rt: HostRuntime) {
         [0xff, 0xff, 0xff],
         [0x7f, 0x7f, 0x7f],
     ];
-    assert_eq!(rt; bytes, want);
-    assert_eq!(rt; rgb_on_white(row[0]), want[0]);
+    assert!(rt; bytes == want);
+    assert!(rt; rgb_on_white(row[0]) == want[0]);
 }
 
 #[test]
 fn takes_each_byte_to_a_channel_and_back(rt: HostRuntime) {
     for byte in 0..=255 {
-        assert_eq!(rt; to8(from8(byte)), byte);
+        assert!(rt; to8(from8(byte)) == byte);
     }
     for (byte, channel) in [(0, 0), (128, 16448), (255, 32768)] {
-        assert_eq!(rt; from8(byte), channel, "at {byte}");
+        assert!(rt; from8(byte) == channel, "at {byte}");
     }
 }
 
@@ -97,11 +94,11 @@ fn numbers_the_modes(rt: HostRuntime) {
         (10, Mode::Recolor),
         (255, Mode::Replace),
     ] {
-        assert_eq!(rt; Mode::from_u8(number), Some(mode), "at {number}");
-        assert_eq!(rt; mode.number(), number);
+        assert!(rt; Mode::from_u8(number) == Some(mode), "at {number}");
+        assert!(rt; mode.number() == number);
     }
     for number in [3, 8, 11, 254] {
-        assert_eq!(rt; Mode::from_u8(number), None, "at {number}");
+        assert!(rt; Mode::from_u8(number) == None, "at {number}");
     }
 }
 
@@ -116,16 +113,15 @@ fn makes_pixels_within_their_alpha(rt: HostRuntime) {
         ((5, 5, 6, 5), false),
         ((0, 0, 0, 32769), false),
     ] {
-        assert_eq!(rt;
-            Pixel::new(r, g, b, a).is_some(),
-            want,
+        assert!(rt;
+            Pixel::new(r, g, b, a).is_some() == want,
             "at {r} {g} {b} {a}"
         );
     }
     let made = pixel(&rt, (1, 2, 3, 4));
-    assert_eq!(rt; (made.r(), made.g(), made.b(), made.a()), (1, 2, 3, 4));
-    assert_eq!(rt; fade(made, ONE), made);
-    assert_eq!(rt; fade(made, ONE / 2), pixel(&rt, (0, 1, 1, 2)));
+    assert!(rt; (made.r(), made.g(), made.b(), made.a()) == (1, 2, 3, 4));
+    assert!(rt; fade(made, ONE) == made);
+    assert!(rt; fade(made, ONE / 2) == pixel(&rt, (0, 1, 1, 2)));
 }
 
 #[test]
@@ -142,9 +138,8 @@ fn blends_a_row_through_a_mask(rt: HostRuntime) {
     ] {
         let mut row = [dst; 3];
         row_blend(mode, src, &[0, 32768, 16448], &mut row);
-        assert_eq!(rt;
-            row,
-            [dst, pixel(&rt, whole), pixel(&rt, half)],
+        assert!(rt;
+            row == [dst, pixel(&rt, whole), pixel(&rt, half)],
             "at {mode:?}"
         );
     }

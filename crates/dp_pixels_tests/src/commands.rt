@@ -119,8 +119,8 @@ fn round_dabs_cover_a_disc(rt: HostRuntime) {
         let command = red_dabs(&rt, rt.alloc(), true, (0, 0), &[dab(0, 0, size, 255)]);
         drawn(&rt, rt.alloc(), &command, 2, 2, &[CLEAR; 4], &want);
         assert!(rt; covers(&command, 0, 0));
-        assert_eq!(rt; covers(&command, 1, 0), size > 2, "size {size}");
-        assert_eq!(rt; covers(&command, 1, 1), size == 3, "size {size}");
+        assert!(rt; covers(&command, 1, 0) == (size > 2), "size {size}");
+        assert!(rt; covers(&command, 1, 1) == (size == 3), "size {size}");
     }
 }
 
@@ -165,11 +165,11 @@ fn dabs_of_the_greatest_size_are_clipped(rt: HostRuntime) {
         let command = red_dabs(&rt, rt.alloc(), round, (x, y), &[dab(0, 0, 255, 255)]);
         let mut pixels = vec![in rt.alloc(); CLEAR; 102_400].expect(&rt, "memory");
         draw_pixels(rt.alloc(), &command, 320, 320, &mut pixels).expect(&rt, "memory");
-        assert_eq!(rt; painted(&pixels, 320), want, "round {round} at {x} {y}");
+        assert!(rt; painted(&pixels, 320) == want, "round {round} at {x} {y}");
         if round && x == 160 {
             let (edge, inner) = ([false, true, true, true, false], [true; 5]);
             let tiles = [edge, inner, inner, inner, edge];
-            assert_eq!(rt; painted_tiles(&pixels), tiles);
+            assert!(rt; painted_tiles(&pixels) == tiles);
         }
     }
 }
@@ -230,7 +230,10 @@ fn tiles_are_put_row_by_row(rt: HostRuntime) {
         draw_pixels(rt.alloc(), &command, 65, 128, &mut pixels).expect(&rt, "memory");
         for (k, pixel) in pixels.iter().enumerate() {
             let tile = k / 4160 % 2 * 2 + k % 65 / 64;
-            assert_eq!(rt; *pixel == put, want[tile], "{col} {row} {repeat} at {k}");
+            assert!(rt;
+                (*pixel == put) == want[tile],
+                "{col} {row} {repeat} at {k}"
+            );
         }
     }
 }
@@ -272,7 +275,7 @@ fn a_tile_of_pixels_is_put_again(rt: HostRuntime) {
             130 | 194 => of_argb(RED),
             _ => CLEAR,
         };
-        assert_eq!(rt; *pixel, want, "at {k}");
+        assert!(rt; *pixel == want, "at {k}");
     }
 }
 
@@ -323,10 +326,10 @@ fn a_window_is_drawn_within_its_stride(rt: HostRuntime) {
     let mut pixels = [CLEAR; 10];
     draw_region(&command, &region, 4, &mut pixels);
     for (k, pixel) in pixels.iter().enumerate() {
-        assert_eq!(rt; *pixel == red, k == 4 || k == 5, "at {k}");
+        assert!(rt; (*pixel == red) == (k == 4 || k == 5), "at {k}");
     }
-    assert_eq!(rt; pixel_after(&command, 2, 2, CLEAR), red);
-    assert_eq!(rt; pixel_after(&command, 3, 2, CLEAR), CLEAR);
+    assert!(rt; pixel_after(&command, 2, 2, CLEAR) == red);
+    assert!(rt; pixel_after(&command, 3, 2, CLEAR) == CLEAR);
     assert!(rt; covers(&command, 0, 10));
     assert!(rt; !covers(&command, -1, 2));
 }

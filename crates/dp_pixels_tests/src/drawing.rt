@@ -9,16 +9,16 @@ use std::process::Abort;
 
 /// The message has this kind and these bytes, and is read from them.
 fn spells(rt: &impl Abort, alloc: Global, m: &Draw, kind: u8, bytes: &[u8]) {
-    assert_eq!(rt; kind_of_draw(m), kind);
+    assert!(rt; kind_of_draw(m) == kind);
     let mut out = Vec::new(alloc);
     write_draw(m, &mut out).expect(rt, "memory");
-    assert_eq!(rt; out.as_slice(), bytes);
+    assert!(rt; out.as_slice() == bytes);
     let read = read_draw(alloc, kind_of_draw(m), bytes).expect(rt, "a message");
     assert!(rt; same_draw(&read, m));
     let copy = read.copy().expect(rt, "memory");
     let mut again = Vec::new(alloc);
     write_draw(&copy, &mut again).expect(rt, "memory");
-    assert_eq!(rt; again.as_slice(), bytes);
+    assert!(rt; again.as_slice() == bytes);
 }
 
 /// Messages of numbers alone.

@@ -76,12 +76,12 @@ fn same_sessions(
 ) {
     let event = event(rt, alloc, Open(b"c"));
     let answer = session.step(&event).expect(rt, "memory");
-    assert_eq!(rt; answer, other.step(&event).expect(rt, "memory"));
+    assert!(rt; answer == other.step(&event).expect(rt, "memory"));
     for conn in 1..4u32 {
-        assert_eq!(rt; session.conns(conn), other.conns(conn));
+        assert!(rt; session.conns(conn) == other.conns(conn));
         let frames = feed(rt, alloc, session, conn);
         let others = feed(rt, alloc, other, conn);
-        assert_eq!(rt; frames.as_slice(), others.as_slice(), "{conn}");
+        assert!(rt; frames.as_slice() == others.as_slice(), "{conn}");
     }
 }
 
@@ -91,15 +91,15 @@ fn reopens(rt: &impl Abort, alloc: Global, call: usize, kept: bool) {
     let keeper = failing(rt, alloc, call, kept);
     let (keeper, journal, _shut) = served(rt, alloc, keeper, EVENTS.len()).into_parts();
     let before = journal.as_slice().len();
-    assert_eq!(rt; before, call.wrapping_sub(1));
+    assert!(rt; before == call.wrapping_sub(1));
     let count = keeper.held().as_slice().len();
     let mut session = resumed(rt, alloc, keeper);
     let mut other = served(rt, alloc, failing(rt, alloc, 100, false), count);
     same_sessions(rt, alloc, &mut session, &mut other);
     let (keeper, journal, shut) = session.into_parts();
-    assert_eq!(rt; journal.as_slice().len(), count + 1);
-    assert_eq!(rt; keeper.held().as_slice().len(), count + 1);
-    assert_eq!(rt; shut.as_slice().len(), 0);
+    assert!(rt; journal.as_slice().len() == count + 1);
+    assert!(rt; keeper.held().as_slice().len() == count + 1);
+    assert!(rt; shut.as_slice().len() == 0);
 }
 
 #[test]
@@ -198,10 +198,10 @@ fn holding(rt: &impl Abort, alloc: Global, rows: &[(u64, &'static [u8])], fails:
 /// Checks that the store has these rows.
 fn holds(rt: &impl Abort, keeper: &MemKeeper, rows: &[(u64, &'static [u8])]) {
     let held = keeper.held().as_slice();
-    assert_eq!(rt; held.len(), rows.len());
+    assert!(rt; held.len() == rows.len());
     for (row, (n, bytes)) in held.iter().zip(rows) {
-        assert_eq!(rt; row.n, *n);
-        assert_eq!(rt; row.bytes.as_slice(), *bytes);
+        assert!(rt; row.n == *n);
+        assert!(rt; row.bytes.as_slice() == *bytes);
     }
 }
 
@@ -210,8 +210,8 @@ fn comes(rt: &impl Abort, alloc: Global, kept: &Kept) {
     match Session::resume(alloc, holding(rt, alloc, kept.rows, 0)) {
         Ok(session) => {
             let (keeper, journal, _shut) = session.into_parts();
-            assert_eq!(rt; kept.bad, None);
-            assert_eq!(rt; journal.as_slice().len(), kept.rows.len());
+            assert!(rt; kept.bad == None);
+            assert!(rt; journal.as_slice().len() == kept.rows.len());
             holds(rt, &keeper, kept.rows);
         }
         Err(ResumeError { keeper, why }) => {
@@ -219,10 +219,10 @@ fn comes(rt: &impl Abort, alloc: Global, kept: &Kept) {
             let ResumeFault::BadRow { n, row } = why else {
                 panic!(rt; "{why:?}");
             };
-            assert_eq!(rt; Some(n), kept.bad);
+            assert!(rt; Some(n) == kept.bad);
             let told = kept.rows.get(n as usize);
-            assert_eq!(rt; told.map(|(n, _)| *n), Some(row.n));
-            assert_eq!(rt; told.map(|(_, bytes)| bytes.len()), Some(row.bytes.len()));
+            assert!(rt; told.map(|(n, _)| *n) == Some(row.n));
+            assert!(rt; told.map(|(_, bytes)| bytes.len()) == Some(row.bytes.len()));
         }
     }
 }
@@ -251,7 +251,7 @@ fn the_first_profile_is_read(rt: HostRuntime) {
     let [Entry { user, msg }] = list.as_slice() else {
         panic!(rt; "not one entry");
     };
-    assert_eq!(rt; (*user, msg.kind()), (1, 71));
+    assert!(rt; (*user, msg.kind()) == (1, 71));
     let body = Octets::from_vec(Vec::from_slice(rt.alloc(), &[0xaa, 0xbb]).expect(&rt, "memory"));
     assert!(rt; same(msg, &Msg::Opaque { kind: 71, body }));
 }
@@ -267,6 +267,6 @@ fn a_reading_that_failed(rt: HostRuntime) {
         assert!(rt; matches!(why, ResumeFault::StoreFault));
         holds(&rt, &keeper, KEPT[1].rows);
         let session = resumed(&rt, rt.alloc(), keeper);
-        assert_eq!(rt; session.conns(0), None);
+        assert!(rt; session.conns(0) == None);
     }
 }

@@ -87,7 +87,7 @@ fn serve<K: Keeper>(
 ) {
     let event = event(rt, alloc, deed);
     let given = session.step(&event).expect(rt, "memory");
-    assert_eq!(rt; given, answer, "{deed:?}");
+    assert!(rt; given == answer, "{deed:?}");
 }
 
 /// An Open that has this answer.
@@ -120,7 +120,7 @@ fn check_pull<K: Keeper>(
         Answer::Entries { at, list, .. } => Some((at, list.as_slice().len())),
         Answer::Gone => None,
     };
-    assert_eq!(rt; given, wanted, "{conn} {epoch} {at} {max}");
+    assert!(rt; given == wanted, "{conn} {epoch} {at} {max}");
 }
 
 /// Checks that a page of frames is what a Pull of as many entries is answered.
@@ -149,8 +149,8 @@ fn check_page<K: Keeper>(
         }
         given = Some((epoch, at, list.as_slice().len()));
     }
-    assert_eq!(rt; page.map(|page| (page.epoch, page.at, page.count)), given);
-    assert_eq!(rt; frames.as_slice(), written.as_slice());
+    assert!(rt; page.map(|page| (page.epoch, page.at, page.count)) == given);
+    assert!(rt; frames.as_slice() == written.as_slice());
 }
 
 /// The answers to the first two users who join.
@@ -291,7 +291,7 @@ fn check(rt: &impl Abort, alloc: Global, case: &Case) {
         serve(rt, alloc, &mut session, *deed, *answer);
     }
     for (epoch, count) in case.conns {
-        assert_eq!(rt; session.conns(*epoch), *count);
+        assert!(rt; session.conns(*epoch) == *count);
     }
     for (pull, wanted) in case.pulls {
         check_pull(rt, &session, *pull, *wanted);
@@ -344,7 +344,7 @@ fn run_to_fault(rt: &impl Abort, alloc: Global, session: &mut Session<MemKeeper>
         let event = event(rt, alloc, *deed);
         let answer = session.step(&event).expect(rt, "memory");
         let is_fault = answer == Reply::StoreFault { count: 1 };
-        assert_eq!(rt; is_fault, k + 1 >= call, "{deed:?}");
+        assert!(rt; is_fault == (k + 1 >= call), "{deed:?}");
     }
 }
 
@@ -358,9 +358,9 @@ fn fails_at(rt: &impl Abort, alloc: Global, call: usize, kept: bool, closings: &
     let (keeper, journal, shut) = session.into_parts();
     let before = call.wrapping_sub(1);
     let held = keeper.held().as_slice().len();
-    assert_eq!(rt; held, if kept { call } else { before });
-    assert_eq!(rt; journal.as_slice().len(), before);
-    assert_eq!(rt; shut.as_slice(), closings);
+    assert!(rt; held == (if kept { call } else { before }));
+    assert!(rt; journal.as_slice().len() == before);
+    assert!(rt; shut.as_slice() == closings);
 }
 
 #[test]
@@ -422,7 +422,7 @@ fn ends_where_no_room_is_left(rt: HostRuntime) {
             epoch: 0,
             at: k + 3,
         };
-        assert_eq!(rt; say_bytes(&rt, rt.alloc(), &mut session, 65535), placed);
+        assert!(rt; say_bytes(&rt, rt.alloc(), &mut session, 65535) == placed);
     }
     let last = Reply::Placed {
         epoch: 0,
@@ -434,9 +434,9 @@ fn ends_where_no_room_is_left(rt: HostRuntime) {
         (49153, last),
         (0, Reply::Ended),
     ] {
-        assert_eq!(rt; say_bytes(&rt, rt.alloc(), &mut session, length), answer);
+        assert!(rt; say_bytes(&rt, rt.alloc(), &mut session, length) == answer);
     }
-    assert_eq!(rt; session.conns(0), Some(1));
+    assert!(rt; session.conns(0) == Some(1));
     serve(&rt, rt.alloc(), &mut session, Close(1), Reply::Ended);
-    assert_eq!(rt; session.conns(0), None);
+    assert!(rt; session.conns(0) == None);
 }

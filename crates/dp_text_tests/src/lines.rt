@@ -58,10 +58,10 @@ fn finish(rt: &impl Abort, lines: &mut Lines, given: &mut Vec<Line>) {
 
 /// Compares lines with those that are wanted.
 fn compare(rt: &impl Abort, given: &[Line], wanted: &[(u32, &[u8])]) {
-    assert_eq!(rt; given.len(), wanted.len());
+    assert!(rt; given.len() == wanted.len());
     for (line, (number, bytes)) in given.iter().zip(wanted) {
-        assert_eq!(rt; line.number, *number);
-        assert_eq!(rt; line.bytes.as_slice(), *bytes);
+        assert!(rt; line.number == *number);
+        assert!(rt; line.bytes.as_slice() == *bytes);
     }
 }
 
@@ -118,8 +118,8 @@ fn a_line_has_at_most_131100_bytes(rt: HostRuntime) {
         if *ended {
             lines.feed(b"\n").expect(&rt, "memory");
         }
-        assert_eq!(rt; told(lines.next_line()), *next);
-        assert_eq!(rt; told(lines.finish()), *last);
+        assert!(rt; told(lines.next_line()) == *next);
+        assert!(rt; told(lines.finish()) == *last);
     }
 }
 
@@ -127,12 +127,12 @@ fn a_line_has_at_most_131100_bytes(rt: HostRuntime) {
 fn a_comment_without_end_is_counted(rt: HostRuntime) {
     let mut lines = Lines::new(rt.alloc());
     lines.feed(b"#a").expect(&rt, "memory");
-    assert_eq!(rt; told(lines.next_line()), Ok(None));
+    assert!(rt; told(lines.next_line()) == Ok(None));
     lines.feed(b"b\n#c").expect(&rt, "memory");
-    assert_eq!(rt; told(lines.finish()), Ok(None));
+    assert!(rt; told(lines.finish()) == Ok(None));
     lines.feed(b"last").expect(&rt, "memory");
-    assert_eq!(rt; told(lines.finish()), Ok(Some((3, 4))));
-    assert_eq!(rt; told(lines.finish()), Ok(None));
+    assert!(rt; told(lines.finish()) == Ok(Some((3, 4))));
+    assert!(rt; told(lines.finish()) == Ok(None));
 }
 
 /// Lines, and their words.
@@ -150,14 +150,14 @@ fn words_are_parted_by_single_spaces(rt: HostRuntime) {
     for (bytes, wanted) in &WORDS {
         let bytes = LineBytes::from_vec(Vec::from_slice(rt.alloc(), bytes).expect(&rt, "memory"));
         let line = Line { number: 1, bytes };
-        assert_eq!(rt; word_count(&line), wanted.len());
+        assert!(rt; word_count(&line) == wanted.len());
         for (k, text) in wanted.iter().enumerate() {
             assert!(rt; word(&line, k).is_some_and(|word| word == *text));
         }
         assert!(rt; word(&line, wanted.len()).is_none());
     }
     let bytes = LineBytes::new(rt.alloc());
-    assert_eq!(rt; word_count(&Line { number: 1, bytes }), 1);
+    assert!(rt; (word_count(&Line { number: 1, bytes })) == 1);
 }
 
 /// Words, and the numbers that they are.
@@ -179,12 +179,12 @@ static NUMBERS: [(&[u8], Option<u32>); 12] = [
 #[test]
 fn numbers_at_the_edges(rt: HostRuntime) {
     for (text, wanted) in &NUMBERS {
-        assert_eq!(rt; number(text), *wanted);
+        assert!(rt; number(text) == *wanted);
         if let Some(n) = wanted {
             let mut out = Vec::from_slice(rt.alloc(), b"n ").expect(&rt, "memory");
             put_number(*n, &mut out).expect(&rt, "memory");
             assert!(rt; out.len() > 2);
-            assert_eq!(rt; &out[2..], *text);
+            assert!(rt; &out[2..] == *text);
         }
     }
 }
@@ -204,21 +204,21 @@ static DIGITS: [(&[u8], Option<&[u8]>); 7] = [
 fn digits_of_either_case(rt: HostRuntime) {
     for (text, wanted) in &DIGITS {
         let found = hex_of(rt.alloc(), text).expect(&rt, "memory");
-        assert_eq!(rt; found.as_ref().map(|bytes| bytes.as_slice()), *wanted);
+        assert!(rt; found.as_ref().map(|bytes| bytes.as_slice()) == *wanted);
     }
     let mut out = Vec::from_slice(rt.alloc(), b"rec ").expect(&rt, "memory");
     put_hex(b"\x00\xab\x0f", &mut out).expect(&rt, "memory");
-    assert_eq!(rt; out.as_slice(), b"rec 00ab0f".as_slice());
+    assert!(rt; out.as_slice() == b"rec 00ab0f".as_slice());
 }
 
 #[test]
 fn ends_and_errors_are_told_apart(rt: HostRuntime) {
-    assert_eq!(rt; RunEnd::BadLine(3), RunEnd::BadLine(3));
-    assert_ne!(rt; RunEnd::Closed, RunEnd::LinkFault);
+    assert!(rt; RunEnd::BadLine(3) == RunEnd::BadLine(3));
+    assert!(rt; RunEnd::Closed != RunEnd::LinkFault);
     let text = format!(in rt.alloc(); "{}, {}", LineError::Long(3), LineError::Memory).expect(
         &rt, "memory",
     );
-    assert_eq!(rt; text.as_str(), "line 3 is too long, out of memory");
+    assert!(rt; text.as_str() == "line 3 is too long, out of memory");
 }
 
 /// Any line is a step.
