@@ -2,6 +2,7 @@
 use Rattle.std.proofs.Common.{◌≡◌, ℕ, ◌+◌, ◌<◌, ◌≤◌, Bool, true, false, if◌then◌else◌, List, []}
 use Rattle.std.proofs.Common.{◌∷◌}
 use Rattle.std.proofs.Common.{◌++◌, length, refl, sym, ap, ◌∙◌, subst, arith, length-append}
+use Rattle.std.specs.Prelude.{Option}
 use Rattle.std.specs.List.{fold}
 use Rattle.std.specs.Io.KnownBytes.{Appends}
 use Rattle.std.proofs.lemmas.List.{append-nil}
@@ -16,8 +17,8 @@ use Rattle.dp_joining.specs.Joining.{Joining, takeable, took_entry}
 use Rattle.dp_joining.specs.JoinStanding.{is_ping}
 use Rattle.dp_joining.specs.Outcomes.{BeginsWith}
 use Rattle.dp_joining.specs.Steps.{Fails, FaultMatchesReading, GivesEntry, GivesNone, Halts}
-use Rattle.dp_joining.specs.Steps.{IsNoEntry, IsReady, Moves, Passes, ReadsOn, Seen}
-use Rattle.dp_joining.specs.Steps.{Shows, Source, Stands, Stops, Wrote}
+use Rattle.dp_joining.specs.Steps.{IsNoEntry, IsReady, Linked, Moves, Passes, ReadsOn, Seen}
+use Rattle.dp_joining.specs.Steps.{Shows, Source, Stands, Stops, Wrote, seen}
 use Rattle.dp_joining.proofs.Along.{takeable-append}
 use Rattle.dp_joining.proofs.Moving.{fault_matches_from, reading_fault}
 use Rattle.dp_joining.proofs.Reading.{reads_none, reads_then, reads_twice, stops_here}
@@ -37,6 +38,12 @@ taking_none s ready = record {
 -- reading the link leaves all but its source
 abbrev pub IsRead : Seen → Seen → Type 0
 IsRead old now = now ≡ record old { source = now.source }
+
+pub is_read : {O : Type 0} (held : O → Option (List ℕ)) (faults : O → ℕ) (old new : Linked)
+    (output : O) (draws tiles : ℕ) → new ≡ record old { source = new.source }
+    → IsRead (seen held faults old output draws tiles) (seen held faults new output draws tiles)
+is_read held faults old new output draws tiles same =
+    ap (λ (j : Linked). seen held faults j output draws tiles) same
 
 read_stands : (start old now : Seen) (j : Joining) → IsRead old now
     → now.source.faults ≡ old.source.faults → Stands start old j → Stands start now j

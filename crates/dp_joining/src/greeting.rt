@@ -19,7 +19,7 @@ use circular_buffer::HeapCircularBuffer;
 use dp_client::Client;
 use dp_entries::EntryReader;
 use dp_io::{Sink, Source};
-use dp_messages::Msg;
+use dp_messages::{Entry, Msg};
 use dp_msg_meta::{Control, NameBytes, Text};
 use dp_shown::ClientBoard;
 use std::alloc::Global;
@@ -88,7 +88,7 @@ fn welcomed<B: ClientBoard, R: Source>(
         (NoWelcome (R.left rx.old) (R.faults rx.old) (R.faults rx.new)) }
 {
     let first = pull(alloc, reader, rx)?;
-    match welcome_of(&first.msg) {
+    match welcome_of(first) {
         Some(welcome) => client_of(alloc, welcome),
         None => Err(JoinStop::NoEntry(LinkCause::Closed)),
     }
@@ -104,14 +104,14 @@ fn client_of<B: ClientBoard>(alloc: Global, welcome: Welcome) -> Result<Client<B
     Ok(client)
 }
 
-/// What the message says, if it is a Welcome.
-fn welcome_of(msg: &Msg) -> Option<Welcome>
-    ensures some { IfSome result (λ welcome. (name : List ℕ) → greeted name msg.now ≡ Some
+/// What the entry says, if it is a Welcome.
+fn welcome_of(entry: Entry) -> Option<Welcome>
+    ensures some { IfSome result (λ welcome. (name : List ℕ) → greeted name entry.msg ≡ Some
         (newcomer (welcomed welcome.user welcome.epoch welcome.at) name)) }
-    ensures none { IfNone result ((name : List ℕ) → greeted name msg.now ≡ None) }
-    ensures other { IfNone result (is_welcome msg.now ≡ false) }
+    ensures none { IfNone result ((name : List ℕ) → greeted name entry.msg ≡ None) }
+    ensures other { IfNone result (is_welcome entry.msg ≡ false) }
 {
-    match msg {
+    match &entry.msg {
         Msg::Control(
             Control::Welcome {
                 user,

@@ -17,7 +17,7 @@ const LEAST_KIND: u8 = 32;
 pub struct JoinStanding;
 
 /// Why a frame may not stand on a link to a server.
-#[derive(Clone, Copy, PartialEq, Eq)]
+#[derive(Clone, Copy)]
 pub enum LinkFlaw {
     /// It carries no message.
     NoMessage(DecodeError),

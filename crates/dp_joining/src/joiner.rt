@@ -15,7 +15,7 @@ use crate::chats::{ChatLine, keep_chat};
 use crate::join_standing::JoinStanding;
 use crate::printing::{print_chats, print_line, print_sent, print_shown};
 use crate::pulling::pull_taken;
-use crate::sending::{acknowledge, send_client, send_entry};
+use crate::sending::{acknowledge, send_client, send_message};
 use crate::stops::JoinStop;
 use circular_buffer::HeapCircularBuffer;
 use dp_client::Client;
@@ -71,7 +71,7 @@ impl<B: ClientBoard, R: Source, S: Sink> Joiner<B, R, S> {
             (seen O.held O.faults self.new output.new draws.new tiles.new) action result }
     {
         match action {
-            JoinAction::Say(msg) => self.say(msg, output, draws, tiles),
+            JoinAction::Say(msg) => self.say(&msg, output, draws, tiles),
             JoinAction::Take { count } => self.take(count, output, draws, tiles),
             JoinAction::View => self.show(Shown::View, output),
             JoinAction::Confirmed => self.show(Shown::Confirmed, output),
@@ -84,23 +84,22 @@ impl<B: ClientBoard, R: Source, S: Sink> Joiner<B, R, S> {
     /// Says a message: it goes out over the link first.
     fn say<O: Sink, D: Ledger, T: Ledger>(
         &mut self,
-        msg: Msg,
+        msg: &Msg,
         output: &mut O,
         draws: &mut Steps<D>,
         tiles: &mut Steps<T>,
     ) -> Result<(), JoinStop>
-        requires { 32 ≤ kind_of msg }
+        requires { 32 ≤ kind_of msg.now }
         ensures changes { Changes (seen O.held O.faults self.old output.old draws.old tiles.old)
             (seen O.held O.faults self.new output.new draws.new tiles.new)
-            (λ j. said_by j msg) result }
+            (λ j. said_by j msg.now) result }
         ensures taken { OnOk result (self.new.client.taken ≡ self.old.client.taken) }
         ensures source { self.new.source ≡ self.old.source }
     {
         clients_show::<B>();
         let user = self.client.user();
-        let entry = Entry { user, msg };
-        send_entry(self.alloc, &entry, &mut self.tx)?;
-        self.client.say(&entry.msg, draws, tiles)?;
+        send_message(self.alloc, user, msg, &mut self.tx)?;
+        self.client.say(msg, draws, tiles)?;
         let line = ReportLine::Said(self.client.pending_len());
         print_line(self.alloc, line, output)
     }
@@ -120,9 +119,28 @@ impl<B: ClientBoard, R: Source, S: Sink> Joiner<B, R, S> {
     {
         for _taken in 0..count {
             let entry = self.next_entry()?;
-            self.take_entry(&entry, output, draws, tiles)?;
+            self.take_given(entry, output, draws, tiles)?;
         }
         Ok(())
+    }
+
+    /// Takes an entry, which isn't kept.
+    fn take_given<O: Sink, D: Ledger, T: Ledger>(
+        &mut self,
+        entry: Entry,
+        output: &mut O,
+        draws: &mut Steps<D>,
+        tiles: &mut Steps<T>,
+    ) -> Result<(), JoinStop>
+        requires { length self.old.client.taken < 2 ^ 32 - 1 }
+        ensures changes { Changes (seen O.held O.faults self.old output.old draws.old tiles.old)
+            (seen O.held O.faults self.new output.new draws.new tiles.new)
+            (λ j. took_entry j entry) result }
+        ensures taken { OnOk result
+            (length self.new.client.taken ≤ length self.old.client.taken + 1) }
+        ensures source { self.new.source ≡ self.old.source }
+    {
+        self.take_entry(&entry, output, draws, tiles)
     }
 
     /// Takes an entry. If it opens an epoch, the Ack goes out over the link first.
@@ -194,7 +212,7 @@ impl<B: ClientBoard, R: Source, S: Sink> Joiner<B, R, S> {
         print_chats(self.alloc, &self.chats, output)
     }
 
-    /// What its memory comes of.
+    /// The allocator of its memory.
     pub fn alloc(&self) -> Global {
         self.alloc
     }

@@ -13,7 +13,7 @@ ghost use Rattle.dp_joining.specs.Steps.{FaultMatchesWriting};
 use crate::stops::JoinStop;
 use dp_client::Client;
 use dp_io::{Failed, Sink, put_all};
-use dp_messages::{Entry, Msg, put_entry};
+use dp_messages::{Msg, put_message};
 use dp_msg_draw::Draw;
 use dp_msg_meta::Control;
 use dp_showing::clients_show;
@@ -34,29 +34,32 @@ fn put_link<S: Sink>(bytes: &[u8], tx: &mut S) -> Result<(), JoinStop>
     }
 }
 
-/// Writes the frame of an entry.
-pub(crate) fn send_entry<S: Sink>(alloc: Global, entry: &Entry, tx: &mut S) -> Result<(), JoinStop>
+/// Writes the frame of a message of the user.
+pub(crate) fn send_message<S: Sink>(
+    alloc: Global,
+    user: u8,
+    msg: &Msg,
+    tx: &mut S,
+) -> Result<(), JoinStop>
     ensures written { OnOk result
-        (Appends (S.held tx.old) (S.held tx.new) (sent_by entry.now.user entry.now.msg)) }
-    ensures prefix { GrowsByPrefix (S.held tx.old) (S.held tx.new)
-        (sent_by entry.now.user entry.now.msg) }
+        (Appends (S.held tx.old) (S.held tx.new) (sent_by user msg.now)) }
+    ensures prefix { GrowsByPrefix (S.held tx.old) (S.held tx.new) (sent_by user msg.now) }
     ensures kept { OnOk result (S.faults tx.new ≡ S.faults tx.old) }
     ensures fault { IfErr result (FaultMatchesWriting (S.faults tx.old) (S.faults tx.new)) }
 {
     let mut frame = Vec::new(alloc);
-    put_entry(entry, &mut frame)?;
+    put_message(user, msg, &mut frame)?;
     put_link(&frame, tx)
 }
 
-/// Writes the frame of a message of the user.
+/// Writes the frame of a message of the user, which isn't kept.
 pub(crate) fn send<S: Sink>(alloc: Global, user: u8, msg: Msg, tx: &mut S) -> Result<(), JoinStop>
     ensures written { OnOk result (Appends (S.held tx.old) (S.held tx.new) (sent_by user msg)) }
     ensures prefix { GrowsByPrefix (S.held tx.old) (S.held tx.new) (sent_by user msg) }
     ensures kept { OnOk result (S.faults tx.new ≡ S.faults tx.old) }
     ensures fault { IfErr result (FaultMatchesWriting (S.faults tx.old) (S.faults tx.new)) }
 {
-    let entry = Entry { user, msg };
-    send_entry(alloc, &entry, tx)
+    send_message(alloc, user, &msg, tx)
 }
 
 /// Acknowledges the epoch, if one is to be.

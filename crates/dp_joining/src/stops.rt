@@ -10,7 +10,7 @@ use dp_lines::RunEnd;
 use std::alloc::AllocError;
 
 /// Why a link gives no entry more.
-#[derive(Clone, Copy, Debug, PartialEq, Eq)]
+#[derive(Clone, Copy)]
 pub enum LinkCause {
     /// It has ended, or a Disconnect came.
     Closed,
@@ -34,7 +34,7 @@ impl LinkCause {
 }
 
 /// Why a client over a link goes no further.
-#[derive(Clone, Copy, Debug, PartialEq, Eq)]
+#[derive(Clone, Copy)]
 pub(crate) enum JoinStop {
     /// The output failed.
     WriteFault,

@@ -17,8 +17,8 @@ returns-in-Some-clause-err g c =
     (source_at g.R.Source.left g.R.Source.faults c.pull.new.reader c.pull.new.rx) _
     c.in_ok-first.ensures.ok c.client_of.ensures.memory
 
-pub returns-clause-err : goal.returns-clause-err
-returns-clause-err g c =
+pub returns-in-None-clause-err : goal.returns-in-None-clause-err
+returns-in-None-clause-err g c =
     no_welcome (g.R.Source.left c.args.rx.now)
     (source_at g.R.Source.left g.R.Source.faults c.args.reader.now c.args.rx.now)
     (source_at g.R.Source.left g.R.Source.faults c.pull.new.reader c.pull.new.rx)

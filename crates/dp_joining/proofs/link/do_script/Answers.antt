@@ -12,7 +12,8 @@ run_lines-ended-requires-clause-first g c =
 
 pub returns-clause-leaves : goal.returns-clause-leaves
 returns-clause-leaves g c = λ name link first welcome is.
-    rw c.into_link-rx.ensures.held (leaves_of (seen g.O.Sink.held g.O.Sink.faults) name first welcome
+    rw c.into_link-rx.ensures.held (leaves_of (seen g.O.Sink.held g.O.Sink.faults) name first
+    welcome
     (moment c.args.joiner c.args.output.now c.args.draws.now c.args.tiles.now)
     (moment c.run_lines-ended.new.machine c.run_lines-ended.new.output
     c.run_lines-ended.new.draws c.run_lines-ended.new.tiles)
