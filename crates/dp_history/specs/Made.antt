@@ -5,7 +5,7 @@ use Rattle.std.specs.List.{filter}
 use Rattle.dp_messages.specs.declared.message.Entry.{Entry}
 use Rattle.dp_acl.specs.Opening.{goes_over}
 use Rattle.dp_history.specs.declared.frames.HistoryFrames.{HistoryFrames}
-use Rattle.dp_history.specs.Frames.{AreFramesOf, AreWritten}
+use Rattle.dp_history.specs.Frames.{AreLogOf, AreWritten, frame_count}
 
 -- they are those of the first entries before a place, and of the first from that place on
 pub record AreMadeOf (frames : HistoryFrames) (history : List Entry) : Type 0 where
@@ -17,8 +17,8 @@ pub record AreMadeOf (frames : HistoryFrames) (history : List Entry) : Type 0 wh
 abbrev pub made_at : HistoryFrames → ℕ → ℕ
 made_at frames at =
     if nat_lt at frames.base
-    then length frames.front.ends - at
-    else length frames.rest.ends - (at - frames.base)
+    then frame_count frames.front - at
+    else frame_count frames.rest - (at - frames.base)
 
 -- the entries that go over into the next epoch
 abbrev pub going_over : List Entry → List Entry
@@ -28,5 +28,5 @@ going_over entries = filter (λ entry. goes_over entry.msg) entries
 -- from a place of their own on, and there is none before them.
 pub record AreKept (old : HistoryFrames) (at : ℕ) (written : List Entry) (new : HistoryFrames)
     : Type 0 where
-  pub none : AreFramesOf new.front []
-  pub kept : AreFramesOf new.rest (going_over (drop (at - old.base) written))
+  pub none : AreLogOf new.front []
+  pub kept : AreLogOf new.rest (going_over (drop (at - old.base) written))

@@ -9,6 +9,8 @@ ghost use Rattle.dp_history.specs.Made.{AreKept, AreMadeOf, going_over, made_at}
 
 use crate::item::{HistoryItem, count_kept, is_kept, write_all};
 use crate::log::FrameLog;
+use crate::page::PageFrames;
+use crate::segment::Segment;
 use dp_epochs::Event;
 use dp_lists::{prefix_of, rest_of};
 use std::alloc::{AllocError, Global};
@@ -25,19 +27,40 @@ pub struct HistoryFrames {
     rest: FrameLog,
 }
 
-/// Keeps the frames of those entries from a place on that go over. It takes no memory.
-fn keep_frames(journal: &[Event], items: &[HistoryItem], skip: usize, frames: &mut FrameLog)
-    requires said { All (IsIn journal.now) items.now }
-    requires made { AreWritten frames.old (map (entry_in journal.now) items.now) }
-    ensures { (are : AreWritten frames.old (map (entry_in journal.now) items.now))
-        → AreFramesOf frames.new (going_over (drop skip are.written)) }
+/// Adds copies of the frames of a segment, those from a place on of entries that go over.
+fn keep_segment(
+    journal: &[Event],
+    items: &[HistoryItem],
+    skip: usize,
+    segment: &Segment,
+    kept: &mut FrameLog,
+) -> Result<(), AllocError>
 {
-    let first = skip.min(frames.len());
-    let mut moved = frames.skip(first);
-    for at in first..frames.len() {
-        moved = frames.pass(at, is_kept(journal, &items[at]), moved);
+    for at in skip..segment.len() {
+        if is_kept(journal, &items[at]) {
+            kept.add(segment.frame(at))?;
+        }
     }
-    frames.cut(moved);
+    Ok(())
+}
+
+/// Adds copies of the frames of a log, those from a place on of entries that go over.
+fn keep_frames(
+    journal: &[Event],
+    items: &[HistoryItem],
+    skip: usize,
+    frames: &FrameLog,
+    kept: &mut FrameLog,
+) -> Result<(), AllocError>
+{
+    let mut items = items;
+    let mut skip = skip;
+    for sealed in frames.sealed() {
+        keep_segment(journal, items, skip, &sealed.frames, kept)?;
+        items = rest_of(items, sealed.count);
+        skip = skip.saturating_sub(sealed.count);
+    }
+    keep_segment(journal, items, skip, frames.open(), kept)
 }
 
 impl HistoryFrames {
@@ -69,7 +92,7 @@ impl HistoryFrames {
     /// # Errors
     ///
     /// Memory ran out: the bytes are as they were.
-    pub fn put(&self, at: usize, most: usize, out: &mut Vec<u8>) -> Result<usize, AllocError>
+    pub fn put(&self, at: usize, most: usize, page: &mut PageFrames) -> Result<usize, AllocError>
         requires made { (history : List Piece) × AreMadeOf self.now history }
         requires some { 0 < most }
         requires most { most ≤ made_at self.now at }
@@ -81,9 +104,9 @@ impl HistoryFrames {
         ensures err { OnErr result (out.new.items ≡ out.old.items) }
     {
         if at < self.base {
-            self.front.put(at, most, out)
+            self.front.put(at, most, page)
         } else {
-            self.rest.put(at - self.base, most, out)
+            self.rest.put(at - self.base, most, page)
         }
     }
 
@@ -99,7 +122,7 @@ impl HistoryFrames {
 
     /// Keeps the frames of those entries from a place on that go over into an epoch, which opens
     /// with `opens_with` entries, these last. It takes no memory.
-    pub fn keep(&mut self, journal: &[Event], live: &[HistoryItem], at: usize, opens_with: usize)
+    pub fn keep(&mut self, journal: &[Event], live: &[HistoryItem], at: usize, opens_with: usize) -> Result<(), AllocError>
         requires said { All (IsIn journal.now) live.now }
         requires made { AreMadeOf self.old (map (entry_in journal.now) live.now) }
         ensures kept { (are : AreMadeOf self.old (map (entry_in journal.now) live.now))
@@ -110,11 +133,15 @@ impl HistoryFrames {
             → AreMadeOf self.new (before
             ++ going_over (drop at (map (entry_in journal.now) live.now))) }
     {
+        let alloc = self.rest.allocator();
         let items = rest_of(live, self.base);
         let skip = at.saturating_sub(self.base);
         let count = count_kept(journal, rest_of(items, skip));
-        keep_frames(journal, items, skip, &mut self.rest);
-        self.front = FrameLog::new(self.rest.allocator());
+        let mut kept = FrameLog::new(alloc);
+        let outcome = keep_frames(journal, items, skip, &self.rest, &mut kept);
+        self.front = FrameLog::new(alloc);
         self.base = opens_with.saturating_sub(count);
+        self.rest = kept;
+        outcome
     }
 }
