@@ -12,7 +12,7 @@ pub record Frames : Type 0 where
 -- segments of frames: those that are full, and the last one
 pub record Log : Type 0 where
   pub sealed : List Frames
-  pub open : Frames
+  pub last : Frames
 
 -- how many frames the full segments have
 abbrev pub sealed_count : List Frames → ℕ
@@ -20,7 +20,7 @@ sealed_count sealed = sum_by (λ frames. length frames.ends) sealed
 
 -- how many frames there are
 abbrev pub frame_count : Log → ℕ
-frame_count log = sealed_count log.sealed + length log.open.ends
+frame_count log = sealed_count log.sealed + length log.last.ends
 
 -- the frames of entries
 abbrev pub frames_of : List Entry → List ℕ
@@ -49,7 +49,7 @@ pub record AreLogOf (log : Log) (entries : List Entry) : Type 0 where
   pub before : List Entry
   pub rest : List Entry
   pub sealed : AreSealedOf log.sealed before
-  pub open : AreFramesOf log.open rest
+  pub last : AreFramesOf log.last rest
   pub all : entries ≡ before ++ rest
 
 -- the most bytes of a page of several frames

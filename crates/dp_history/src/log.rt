@@ -5,7 +5,7 @@ ghost use Rattle.std.specs.Prelude.{IfOk, OnOk, OnErr};
 ghost use Rattle.dp_messages.specs.declared.message.Entry.{Entry as Piece};
 ghost use Rattle.dp_messages.specs.Messages.{entry_bytes};
 ghost use Rattle.dp_history.specs.Frames.{AreFramesOf, AreSealedOf, AreLogOf, IsShort};
-ghost use Rattle.dp_history.specs.Frames.{frame_count, frames_of};
+ghost use Rattle.dp_history.specs.Frames.{frame_count, frames_of, sealed_count};
 
 use crate::page::PageFrames;
 use crate::segment::{Segment, Span};
@@ -42,20 +42,21 @@ impl Model for Sealed {
 #[derive(Drop)]
 pub struct FrameLog {
     sealed: Vec<Sealed>,
-    /// How many frames the full segments have.
-    before: usize,
-    open: Segment,
+    last: Segment,
+    /// How many frames there are.
+    len: usize,
 }
 
 impl Model for FrameLog {
     ghost use Rattle.std.specs.Prelude.{◌≡◌};
-    ghost use Rattle.dp_history.specs.Frames.{Log, sealed_count};
+    ghost use Rattle.dp_history.specs.Frames.{Log, frame_count};
 
     ghost Value = { Log };
 
-    ghost view = { λ log. record { sealed = log.sealed.items; open = log.open } };
+    ghost view = { λ log. record { sealed = log.sealed.items; last = log.last } };
 
-    ghost invariant = { λ log. log.before ≡ sealed_count log.sealed.items };
+    ghost invariant = { λ log. log.len
+        ≡ frame_count (record { sealed = log.sealed.items; last = log.last }) };
 }
 
 impl Sealed {
@@ -86,22 +87,24 @@ fn share_of(
     most: usize,
     page: &mut PageFrames,
 ) -> Result<usize, AllocError>
-    requires are { (entries : List Piece) × AreSealedOf sealed.now entries × (at < length entries) }
+    requires are { (entries : List Piece) × AreSealedOf sealed.now entries
+        × (at < length entries) }
     requires some { 0 < most }
     ensures some { IfOk result (λ count. 0 < count) }
     ensures most { IfOk result (λ count. count ≤ most) }
     ensures put { IfOk result (λ count. (entries : List Piece) → AreSealedOf sealed.now entries
-        → (at + count ≤ length entries)
-        × (page.new ≡ frames_of (take count (drop at entries)))) }
+        → page.new ≡ frames_of (take count (drop at entries))) }
+    ensures within { IfOk result (λ count. (entries : List Piece) → AreSealedOf sealed.now entries
+        → at + count ≤ length entries) }
     ensures short { IfOk result (λ count. IsShort count page.new) }
     ensures err { OnErr result (page.new ≡ []) }
 {
-    let mut at = at;
+    let mut place = at;
     for segment in sealed {
-        if at < segment.count {
-            return segment.share(at, most, page);
+        if place < segment.count {
+            return segment.share(place, most, page);
         }
-        at -= segment.count;
+        place -= segment.count;
     }
     unreachable!()
 }
@@ -113,8 +116,8 @@ impl FrameLog {
     {
         FrameLog {
             sealed: Vec::new(alloc),
-            before: 0,
-            open: Segment::new(alloc),
+            last: Segment::new(alloc),
+            len: 0,
         }
     }
 
@@ -124,12 +127,19 @@ impl FrameLog {
         ensures entries { (entries : List Piece) → AreLogOf self.now entries
             → result ≡ length entries }
     {
-        self.before + self.open.len()
+        self.len
+    }
+
+    /// How many frames the full segments have.
+    pub(crate) fn before(&self) -> usize
+        ensures { result ≡ sealed_count self.now.sealed }
+    {
+        self.len - self.last.len()
     }
 
     /// Where the memory of the frames comes from.
     pub(crate) fn allocator(&self) -> Global {
-        self.open.allocator()
+        self.last.allocator()
     }
 
     /// Seals the last segment, as far as memory goes.
@@ -140,14 +150,13 @@ impl FrameLog {
         if self.sealed.reserve(1).is_err() {
             return;
         }
-        let count = self.open.len();
+        let count = self.last.len();
         let next = Segment::with_room(alloc, SEGMENT_BYTES);
-        match Arc::new(alloc, replace(&mut self.open, next)) {
+        match Arc::new(alloc, replace(&mut self.last, next)) {
             Ok(frames) => {
                 self.sealed.push_reserved(Sealed { frames, count });
-                self.before += count;
             }
-            Err(AllocFailed { value }) => self.open = value,
+            Err(AllocFailed { value }) => self.last = value,
         }
     }
 
@@ -155,7 +164,7 @@ impl FrameLog {
     fn seal_full(&mut self)
         ensures { (entries : List Piece) → AreLogOf self.old entries → AreLogOf self.new entries }
     {
-        if self.open.size() >= SEGMENT_BYTES {
+        if self.last.size() >= SEGMENT_BYTES {
             self.seal();
         }
     }
@@ -168,10 +177,13 @@ impl FrameLog {
     pub fn append(&mut self, user: u8, msg: &Msg) -> Result<(), AllocError>
         ensures ok { OnOk result ((entries : List Piece) → AreLogOf self.old entries
             → AreLogOf self.new (entries ++ record { user = user; msg = msg.now } ∷ [])) }
-        ensures err { OnErr result ((entries : List Piece) → AreLogOf self.old entries
-            → AreLogOf self.new entries) }
+        ensures err { OnErr result (self.new ≡ self.old) }
     {
-        self.open.append(user, msg)?;
+        let Some(len) = self.len.checked_add(1) else {
+            return Err(AllocError);
+        };
+        self.last.append(user, msg)?;
+        self.len = len;
         self.seal_full();
         Ok(())
     }
@@ -185,10 +197,13 @@ impl FrameLog {
         ensures ok { OnOk result ((entries : List Piece) (entry : Piece)
             → AreLogOf self.old entries → frame.now ≡ entry_bytes entry
             → AreLogOf self.new (entries ++ entry ∷ [])) }
-        ensures err { OnErr result ((entries : List Piece) → AreLogOf self.old entries
-            → AreLogOf self.new entries) }
+        ensures err { OnErr result (self.new ≡ self.old) }
     {
-        self.open.add(frame)?;
+        let Some(len) = self.len.checked_add(1) else {
+            return Err(AllocError);
+        };
+        self.last.add(frame)?;
+        self.len = len;
         self.seal_full();
         Ok(())
     }
@@ -201,27 +216,27 @@ impl FrameLog {
     }
 
     /// The last segment.
-    pub(crate) fn open(&self) -> &Segment
-        ensures { result.now ≡ self.now.open }
+    pub(crate) fn last(&self) -> &Segment
+        ensures { result.now ≡ self.now.last }
     {
-        &self.open
+        &self.last
     }
 
     /// Copies frames of the last segment into a page: those from a place on, at most this many.
     fn copy_of(&self, at: usize, most: usize, page: &mut PageFrames) -> Result<usize, AllocError>
-        requires are { (entries : List Piece) × AreFramesOf self.now.open entries
+        requires are { (entries : List Piece) × AreFramesOf self.now.last entries
             × (at + most ≤ length entries) }
         requires some { 0 < most }
         ensures some { IfOk result (λ count. 0 < count) }
         ensures most { IfOk result (λ count. count ≤ most) }
         ensures put { IfOk result (λ count. (entries : List Piece)
-            → AreFramesOf self.now.open entries
+            → AreFramesOf self.now.last entries
             → page.new ≡ frames_of (take count (drop at entries))) }
         ensures short { IfOk result (λ count. IsShort count page.new) }
         ensures err { OnErr result (page.new ≡ []) }
     {
-        let Span { start, size, count } = self.open.span(at, most);
-        page.copy(self.open.part(start, size))?;
+        let Span { start, size, count } = self.last.span(at, most);
+        page.copy(self.last.part(start, size))?;
         Ok(count)
     }
 
@@ -243,10 +258,11 @@ impl FrameLog {
         ensures short { IfOk result (λ count. IsShort count page.new) }
         ensures err { OnErr result (page.new ≡ []) }
     {
-        if at < self.before {
+        let before = self.before();
+        if at < before {
             share_of(&self.sealed, at, most, page)
         } else {
-            self.copy_of(at - self.before, most, page)
+            self.copy_of(at - before, most, page)
         }
     }
 }

@@ -114,8 +114,8 @@ impl Segment {
     pub(crate) fn append(&mut self, user: u8, msg: &Msg) -> Result<(), AllocError>
         ensures ok { OnOk result ((entries : List Piece) → AreFramesOf self.old entries
             → AreFramesOf self.new (entries ++ record { user = user; msg = msg.now } ∷ [])) }
-        ensures err { OnErr result ((entries : List Piece) → AreFramesOf self.old entries
-            → AreFramesOf self.new entries) }
+        ensures count { OnOk result (length self.new.ends ≡ length self.old.ends + 1) }
+        ensures err { OnErr result (self.new ≡ self.old) }
     {
         self.ends.reserve(1)?;
         put_message(user, msg, &mut self.bytes)?;
@@ -132,8 +132,8 @@ impl Segment {
         ensures ok { OnOk result ((entries : List Piece) (entry : Piece)
             → AreFramesOf self.old entries → frame.now ≡ entry_bytes entry
             → AreFramesOf self.new (entries ++ entry ∷ [])) }
-        ensures err { OnErr result ((entries : List Piece) → AreFramesOf self.old entries
-            → AreFramesOf self.new entries) }
+        ensures count { OnOk result (length self.new.ends ≡ length self.old.ends + 1) }
+        ensures err { OnErr result (self.new ≡ self.old) }
     {
         self.ends.reserve(1)?;
         self.bytes.extend_from_slice(frame)?;

@@ -1,10 +1,10 @@
-use Rattle.std.proofs.Common.{◌≡◌, ℕ, ◌+◌, ◌-◌, ◌<◌, ◌≤◌, List, ◌++◌, length, take, drop}
+use Rattle.std.proofs.Common.{◌≡◌, ℕ, ◌+◌, ◌-◌, ◌<◌, ◌≤◌, List, length, take, drop}
 use Rattle.std.proofs.Common.{get_or, ap, ◌∙◌, arith, inl, inr, ⊎_elim}
-use Rattle.std.proofs.lemmas.List.{length-take-le, length-take, length-drop, length-append}
+use Rattle.std.proofs.lemmas.List.{length-take-le, length-take, length-drop}
 use Rattle.dp_messages.specs.declared.message.Entry.{Entry}
 use Rattle.dp_history.specs.Frames.{frames_of, ends_from}
 use Rattle.dp_history.proofs.FrameLemmas.{length-ends, frames-cut, ends-part}
-use Rattle.dp_history.proofs.log.FrameLog.put.Goals as goal
+use Rattle.dp_history.proofs.segment.Segment.span.Goals as goal
 
 -- the `most` places from one on
 few_ends : (at most : ℕ) (entries : List Entry) → at + most ≤ length entries
@@ -32,17 +32,13 @@ count_within-count-requires c =
       c.requires.some,
     )
 
-pub returns-clause-put : goal.returns-clause-put
-returns-clause-put c = λ entries are.
+pub returns-clause-are : goal.returns-clause-are
+returns-clause-are c = λ entries are.
     let at = c.args.at in
     let count = c.count_within-count.result in
-    c.in_ok-extend_from_slice.ensures.items
-    ∙ ap (λ xs. c.args.out.now.items ++ xs)
-    (c.prefix_of.ensures
-    ∙ ap (take c.saturating_sub-size.result) (c.rest_of-2.ensures
-    ∙ ap (drop c.start-start.result) (c.deref-2.ensures.value
-    ∙ ap (λ frames. frames.bytes) c.self.view_is ∙ are.bytes)
-    ∙ ap (λ n. drop n (frames_of entries)) (c.start-start.ensures entries are))
+    ap (λ xs. take c.saturating_sub-size.result (drop c.start-start.result xs)) are.bytes
+    ∙ ap (λ n. take c.saturating_sub-size.result (drop n (frames_of entries)))
+    (c.start-start.ensures entries are)
     ∙ ap (λ n. take n (drop (length (frames_of (take at entries))) (frames_of entries)))
     (omega (
       arith,
@@ -50,7 +46,7 @@ returns-clause-put c = λ entries are.
       c.start.ensures entries are,
       c.start-start.ensures entries are,
     ))
-    ∙ frames-cut at count entries)
+    ∙ frames-cut at count entries
 
 pub returns-clause-short : goal.returns-clause-short
 returns-clause-short c =
@@ -59,7 +55,6 @@ returns-clause-short c =
     let at = c.args.at in
     let most = c.args.most in
     let count = c.count_within-count.result in
-    let bytes = c.prefix_of.result.now in
     let ends : c.prefix_of-ends.result.now ≡ take most (drop at (ends_from 0 entries)) =
     c.prefix_of-ends.ensures
     ∙ ap (take most) (c.rest_of.ensures
@@ -68,10 +63,8 @@ returns-clause-short c =
     ⊎_elim (λ one. inl one) (λ below. inr (omega (
       arith,
       below,
-      ap length c.in_ok-extend_from_slice.ensures.items,
-      length-append c.args.out.now.items bytes,
-      ap length c.prefix_of.ensures,
-      length-take c.saturating_sub-size.result c.rest_of-2.result.now,
+      length-take c.saturating_sub-size.result
+          (drop c.start-start.result c.args.self.now.bytes),
       c.saturating_sub-size.ensures,
       c.saturating_add.ensures,
       c.start.ensures entries are,
