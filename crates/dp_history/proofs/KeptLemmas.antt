@@ -2,10 +2,11 @@
 use Rattle.std.proofs.Common.{◌≡◌, ℕ, zero, suc, ◌+◌, ◌-◌, ◌<◌, ◌≤◌, min, List, [], ◌∷◌, ◌++◌}
 use Rattle.std.proofs.Common.{length, take, drop, get_or, map, refl, sym, ap, subst, ◌∙◌, arith}
 use Rattle.std.proofs.Common.{append_assoc, append-nil, length-append, take-append-drop}
-use Rattle.std.proofs.Common.{drop-drop, Result, Ok, Err}
-use Rattle.std.proofs.Math.Seq.{take-add, take-append_seam, drop-append_seam}
-use Rattle.std.proofs.lemmas.List.{drop_more, drop_all, take_all, drop-append-le, drop-map}
-use Rattle.std.proofs.lemmas.List.{length-drop, length-take-le, take-take, drop-take}
+use Rattle.std.proofs.Common.{drop-drop, Result, Ok, Err, true, false}
+use Rattle.std.specs.Result.{IsErr}
+use Rattle.std.proofs.Math.Seq.{take-add, drop-append_seam}
+use Rattle.std.proofs.lemmas.List.{drop_more, drop_all, take_all, drop-map}
+use Rattle.std.proofs.lemmas.List.{length-drop, length-map}
 use Rattle.std.proofs.lemmas.List.Elements.{filter-append}
 use Rattle.dp_messages.specs.declared.message.Entry.{Entry}
 use Rattle.dp_messages.specs.Messages.{entry_bytes}
@@ -17,10 +18,26 @@ use Rattle.dp_history.specs.Frames.{frames_of}
 use Rattle.dp_history.specs.Items.{entry_in}
 use Rattle.dp_history.specs.declared.frames.HistoryFrames.{HistoryFrames}
 use Rattle.dp_history.specs.Made.{AreKept, AreMadeOf, WereKept, going_over}
+use Rattle.dp_history.proofs.LogLemmas.{ends-count, next-segment}
 use Rattle.dp_history.proofs.MadeLemmas.{drop-both, none-written, written-on}
 
 going-append : (xs ys : List Entry) → going_over (xs ++ ys) ≡ going_over xs ++ going_over ys
 going-append xs ys = filter-append (λ (e : Entry). goes_over e.msg) xs ys
+
+-- ---- what was kept
+
+-- what was kept of it was written
+pub were-written : {T E : Type 0} (result : Result T E) (log : Log) (entries : List Entry)
+    → WereKept result log entries → AreWritten log entries
+were-written (Ok done) log entries kept =
+    record { written = entries; rest = []; of = kept; all = sym (append-nil entries) }
+were-written (Err e) log entries kept = kept
+
+-- if memory ran out, those of the first entries were written
+pub kept-first : {T E : Type 0} (result : Result T E) (log : Log) (entries : List Entry)
+    → IsErr result → AreWritten log entries → WereKept result log entries
+kept-first (Ok done) log entries bad are = let e : false ≡ true = bad in cc
+kept-first (Err e) log entries bad are = are
 
 -- ---- one frame more
 
@@ -52,12 +69,31 @@ going-next entries first at entry from within is =
 
 -- ---- a segment
 
+-- how many items it has
+pub segment-count : (frames : Frames) (journal : List Event) (items : List HistoryItem)
+    (mine more : List Entry) (n m count : ℕ) → n ≡ length frames.ends → m ≡ length items
+    → count ≡ min n m → AreFramesOf frames mine → map (entry_in journal) items ≡ mine ++ more
+    → count ≡ length mine
+segment-count frames journal items mine more n m count n_is m_is is of all =
+    omega (
+      arith,
+      n_is,
+      m_is,
+      is,
+      ends-count frames mine of,
+      ap length all,
+      length-append mine more,
+      length-map items (entry_in journal),
+    )
+
 -- from a place on that doesn't stand after the end
 first-is : (skip : ℕ) (entries : List Entry)
     → drop (min skip (length entries)) entries ≡ drop skip entries
-first-is zero [] = refl
-first-is (suc skip) [] = refl
-first-is zero (entry ∷ entries) = refl
+first-is zero entries =
+    let none : min zero (length entries) ≡ 0 = omega arith in ap (λ n. drop n entries) none
+first-is (suc skip) [] =
+    let none : min (suc skip) zero ≡ 0 = omega arith in
+    let nil : List Entry = [] in ap (λ n. drop n nil) none
 first-is (suc skip) (entry ∷ entries) =
     let less : min (suc skip) (suc (length entries)) ≡ suc (min skip (length entries)) = omega
     arith in
@@ -97,41 +133,6 @@ segment-begun log before mine skip first count k long is are =
 
 -- ---- segments
 
--- the next segment and the others
-pub next-segment : (sealed : List Frames) (i : ℕ) (one : Frames) (left : List Entry)
-    → i < length sealed → get_or sealed i one ≡ one → AreSealedOf (drop i sealed) left
-    → AreSealedOf (one ∷ drop (i + 1) sealed) left
-next-segment sealed i one left within is =
-    subst (λ xs. AreSealedOf xs left)
-    (drop_more sealed i one within ∙ ap (λ x. x ∷ drop (i + 1) sealed) is)
-
--- what is left after it
-pub rest-is : (entries mine rest : List Entry) (done count : ℕ) → drop done entries ≡ mine ++ rest
-    → count ≡ length mine → rest ≡ drop (done + count) entries
-rest-is entries mine rest done count all is =
-    sym (drop-append_seam mine rest) ∙ ap (λ n. drop n (mine ++ rest)) (sym is)
-    ∙ ap (drop count) (sym all) ∙ drop-drop count done entries
-
--- what was passed with it
-pub passed-is : (entries mine rest : List Entry) (done count : ℕ)
-    → drop done entries ≡ mine ++ rest → count ≡ length mine
-    → take (done + count) entries ≡ take done entries ++ mine
-passed-is entries mine rest done count all is =
-    take-add done count entries
-    ∙ ap (λ xs. take done entries ++ take count xs) all
-    ∙ ap (λ n. take done entries ++ take n (mine ++ rest)) is
-    ∙ ap (λ xs. take done entries ++ xs) (take-append_seam mine rest)
-
--- the items of what is left
-pub items-left : (journal : List Event) (items : List HistoryItem)
-    (entries more mine rest : List Entry) (done : ℕ) → map (entry_in journal) items ≡ entries ++ more
-    → done ≤ length entries → drop done entries ≡ mine ++ rest
-    → map (entry_in journal) (drop done items) ≡ mine ++ (rest ++ more)
-items-left journal items entries more mine rest done all within left =
-    sym (drop-map (entry_in journal) done items) ∙ ap (drop done) all
-    ∙ drop-append-le done entries more within ∙ ap (λ xs. xs ++ more) left
-    ∙ append_assoc mine rest more
-
 -- what goes over of two parts
 pub going-both : (skip : ℕ) (entries before rest : List Entry) → entries ≡ before ++ rest
     → going_over (drop skip entries)
@@ -141,45 +142,150 @@ going-both skip entries before rest all =
     ∙ ap going_over (drop-both skip before rest)
     ∙ going-append (drop skip before) (drop (skip - length before) rest)
 
--- what goes over of what was passed, with one segment more
-pub going-passed : (skip done count : ℕ) (entries mine rest : List Entry)
-    → drop done entries ≡ mine ++ rest → count ≡ length mine → done ≤ length entries
-    → going_over (drop skip (take (done + count) entries))
-    ≡ going_over (drop skip (take done entries)) ++ going_over (drop (skip - done) mine)
-going-passed skip done count entries mine rest all is within =
-    going-both skip (take (done + count) entries) (take done entries) mine
-    (passed-is entries mine rest done count all is)
-    ∙ ap (λ n. going_over (drop skip (take done entries)) ++ going_over (drop (skip - n) mine))
-    (length-take-le done entries within)
+-- Segments were passed, and the frames in them that go over were kept. The others are those of the
+-- first items that are left.
+pub record Passed (journal : List Event) (sealed : List Frames) (left : List HistoryItem)
+    (skip from : ℕ) (kept : Log) (entries more : List Entry) : Type 0 where
+  pub before : List Entry
+  pub todo : List Entry
+  pub all : entries ≡ before ++ todo
+  pub of : AreSealedOf sealed todo
+  pub items : map (entry_in journal) left ≡ todo ++ more
+  pub done : AreLogOf kept (going_over (drop skip before))
+  pub further : from ≡ skip - length before
 
--- what was written of the first entries
-pub written-first : (log : Log) (skip n : ℕ) (entries : List Entry)
-    → AreWritten log (going_over (drop skip (take n entries)))
-    → AreWritten log (going_over (drop skip entries))
-written-first log skip n entries are =
-    let more = going_over (drop (skip - length (take n entries)) (drop n entries)) in
-    subst (AreWritten log)
-    (sym (going-both skip entries (take n entries) (drop n entries)
-    (sym (take-append-drop n entries))))
-    (written-on log (going_over (drop skip (take n entries))) more are)
+-- none was passed
+pub passed-first : (journal : List Event) (sealed : List Frames) (left : List HistoryItem)
+    (skip : ℕ) (kept : Log) (entries more : List Entry) → AreLogOf kept []
+    → AreSealedOf sealed entries → map (entry_in journal) left ≡ entries ++ more
+    → Passed journal sealed left skip skip kept entries more
+passed-first journal sealed left skip kept entries more none of items = record {
+  before = [];
+  todo = entries;
+  all = refl;
+  of = of;
+  items = items;
+  done = subst (λ xs. AreLogOf kept (going_over xs)) (sym (drop_all skip nil (omega arith))) none;
+  further = omega arith;
+} where
+  nil : List Entry
+  nil = []
 
--- all segments were passed
-pub all-passed : (sealed : List Frames) (i done : ℕ) (entries : List Entry) → length sealed ≤ i
-    → AreSealedOf (drop i sealed) (drop done entries) → take done entries ≡ entries
-all-passed sealed i done entries end are =
-    let none : drop done entries ≡ [] =
-    subst (λ xs. AreSealedOf xs (drop done entries)) (drop_all i sealed end) are in
-    sym (append-nil (take done entries)) ∙ ap (λ xs. take done entries ++ xs) (sym none)
-    ∙ take-append-drop done entries
+-- what is looked at next
+pub record Next (journal : List Event) (one : Frames) (others : List Frames)
+    (left : List HistoryItem) (p_todo more : List Entry) : Type 0 where
+  pub mine : List Entry
+  pub rest : List Entry
+  pub of : AreFramesOf one mine
+  pub sealed : AreSealedOf others rest
+  pub all : p_todo ≡ mine ++ rest
+  pub items : map (entry_in journal) left ≡ mine ++ (rest ++ more)
+
+pub next-of : (journal : List Event) (sealed : List Frames) (i : ℕ) (one : Frames)
+    (left : List HistoryItem) (todo more : List Entry) → i < length sealed
+    → get_or sealed i one ≡ one → AreSealedOf (drop i sealed) todo
+    → map (entry_in journal) left ≡ todo ++ more
+    → Next journal one (drop (i + 1) sealed) left todo more
+next-of journal sealed i one left todo more within is of items =
+    let n = next-segment sealed i one todo within is of in
+    record {
+      mine = n.0;
+      rest = n.1;
+      of = n.2;
+      sealed = n.3;
+      all = n.4;
+      items = items ∙ ap (λ xs. xs ++ more) n.4 ∙ append_assoc n.0 n.1 more;
+    }
+
+-- one more was passed
+pub passed-next : (journal : List Event) (sealed : List Frames) (i : ℕ) (one : Frames)
+    (left later : List HistoryItem) (skip from then count : ℕ) (kept new : Log)
+    (entries more : List Entry) → i < length sealed → get_or sealed i one ≡ one
+    → (p : Passed journal (drop i sealed) left skip from kept entries more)
+    → count ≡ length one.ends → later ≡ drop count left → then ≡ from - count
+    → ((before mine rest : List Entry) → AreLogOf kept before → AreFramesOf one mine
+    → map (entry_in journal) left ≡ mine ++ rest
+    → AreLogOf new (before ++ going_over (drop from mine)))
+    → Passed journal (drop (i + 1) sealed) later skip then new entries more
+passed-next journal sealed i one left later skip from then count kept new entries more within is p
+    count_is later_is then_is keeps =
+    let n = next-of journal sealed i one left p.todo more within is p.of p.items in
+    let long : count ≡ length n.mine = count_is ∙ ends-count one n.mine n.of in
+    record {
+      before = p.before ++ n.mine;
+      todo = n.rest;
+      all = p.all ∙ ap (λ xs. p.before ++ xs) n.all ∙ sym (append_assoc p.before n.mine n.rest);
+      of = n.sealed;
+      items = ap (map (entry_in journal)) later_is ∙ sym (drop-map (entry_in journal) count left)
+          ∙ ap (drop count) n.items ∙ ap (λ k. drop k (n.mine ++ (n.rest ++ more))) long
+          ∙ drop-append_seam n.mine (n.rest ++ more);
+      done = subst (AreLogOf new)
+          (ap (λ k. going_over (drop skip p.before) ++ going_over (drop k n.mine)) p.further
+          ∙ sym (going-both skip (p.before ++ n.mine) p.before n.mine refl))
+          (keeps (going_over (drop skip p.before)) n.mine (n.rest ++ more) p.done n.of n.items);
+      further = omega (arith, then_is, p.further, long, length-append p.before n.mine);
+    }
+
+-- memory ran out in one
+pub passed-err : {T E U F : Type 0} (r : Result T E) (q : Result U F) (journal : List Event)
+    (sealed : List Frames) (i : ℕ) (one : Frames) (left : List HistoryItem) (skip from : ℕ)
+    (kept new : Log) (entries more : List Entry) → IsErr r → i < length sealed
+    → get_or sealed i one ≡ one
+    → (p : Passed journal (drop i sealed) left skip from kept entries more)
+    → ((before mine rest : List Entry) → AreLogOf kept before → AreFramesOf one mine
+    → map (entry_in journal) left ≡ mine ++ rest
+    → WereKept q new (before ++ going_over (drop from mine)))
+    → WereKept r new (going_over (drop skip entries))
+passed-err r q journal sealed i one left skip from kept new entries more bad within is p keeps =
+    let n = next-of journal sealed i one left p.todo more within is p.of p.items in
+    let first = going_over (drop skip p.before) ++ going_over (drop from n.mine) in
+    let whole : going_over (drop skip entries) ≡ first
+        ++ going_over (drop (skip - length (p.before ++ n.mine)) n.rest) =
+    going-both skip entries (p.before ++ n.mine) n.rest
+    (p.all ∙ ap (λ xs. p.before ++ xs) n.all ∙ sym (append_assoc p.before n.mine n.rest))
+    ∙ ap (λ xs. xs ++ going_over (drop (skip - length (p.before ++ n.mine)) n.rest))
+    (going-both skip (p.before ++ n.mine) p.before n.mine refl
+    ∙ ap (λ k. going_over (drop skip p.before) ++ going_over (drop k n.mine)) (sym p.further)) in
+    kept-first r new (going_over (drop skip entries)) bad
+    (subst (AreWritten new) (sym whole)
+    (written-on new first (going_over (drop (skip - length (p.before ++ n.mine)) n.rest))
+    (were-written q new first
+    (keeps (going_over (drop skip p.before)) n.mine (n.rest ++ more) p.done n.of n.items))))
+
+-- all were passed
+pub passed-all : (journal : List Event) (sealed : List Frames) (i : ℕ) (left : List HistoryItem)
+    (skip from : ℕ) (kept : Log) (entries more : List Entry) → length sealed ≤ i
+    → Passed journal (drop i sealed) left skip from kept entries more
+    → AreLogOf kept (going_over (drop skip entries))
+passed-all journal sealed i left skip from kept entries more end p =
+    let none : p.todo ≡ [] =
+    subst (λ xs. AreSealedOf xs p.todo) (drop_all i sealed end) p.of in
+    subst (λ xs. AreLogOf kept (going_over (drop skip xs)))
+    (sym (p.all ∙ ap (λ xs. p.before ++ xs) none ∙ append-nil p.before)) p.done
 
 -- ---- a log
 
--- what was kept of it was written
-pub were-written : {T E : Type 0} (result : Result T E) (log : Log) (entries : List Entry)
-    → WereKept result log entries → AreWritten log entries
-were-written (Ok done) log entries kept =
-    record { written = entries; rest = []; of = kept; all = sym (append-nil entries) }
-were-written (Err e) log entries kept = kept
+-- the last segment after the others
+pub log-kept : {T E : Type 0} (r : Result T E) (log : Log) (skip before : ℕ)
+    (written first rest : List Entry) → written ≡ first ++ rest → before ≡ length first
+    → WereKept r log (going_over (drop skip first) ++ going_over (drop (skip - before) rest))
+    → WereKept r log (going_over (drop skip written))
+log-kept r log skip before written first rest all long =
+    subst (WereKept r log)
+    (ap (λ n. going_over (drop skip first) ++ going_over (drop (skip - n) rest)) long
+    ∙ sym (going-both skip written first rest all))
+
+-- memory ran out before it
+pub log-begun : {T E U F : Type 0} (r : Result T E) (q : Result U F) (log : Log) (skip : ℕ)
+    (written first rest : List Entry) → written ≡ first ++ rest → IsErr r
+    → WereKept q log (going_over (drop skip first))
+    → WereKept r log (going_over (drop skip written))
+log-begun r q log skip written first rest all bad kept =
+    kept-first r log (going_over (drop skip written)) bad
+    (subst (AreWritten log) (sym (going-both skip written first rest all))
+    (written-on log (going_over (drop skip first))
+    (going_over (drop (skip - length first) rest))
+    (were-written q log (going_over (drop skip first)) kept)))
 
 -- what goes over from a place on, of what comes before the others and of those
 going-split : (history : List Entry) (base at : ℕ)

@@ -65,8 +65,9 @@ fn keep_segment(
         → map (entry_in journal.now) items.now ≡ mine ++ more
         → WereKept result kept.new (before ++ going_over (drop skip mine)) }
 {
-    let first = skip.min(segment.len());
-    for at in first..segment.len() {
+    let count = segment.len().min(items.len());
+    let first = skip.min(count);
+    for at in first..count {
         keep_frame(journal, &items[at], segment.frame(at), kept)?;
     }
     Ok(())
@@ -83,16 +84,17 @@ fn keep_sealed(
     requires said { All (IsIn journal.now) items.now }
     requires made { (entries : List Piece) × (more : List Piece) × AreSealedOf sealed.now entries
         × (map (entry_in journal.now) items.now ≡ entries ++ more) }
-    ensures { (entries : List Piece) (more : List Piece)
-        → AreLogOf kept.old [] → AreSealedOf sealed.now entries
+    requires none { AreLogOf kept.old [] }
+    ensures { (entries : List Piece) (more : List Piece) → AreSealedOf sealed.now entries
         → map (entry_in journal.now) items.now ≡ entries ++ more
         → WereKept result kept.new (going_over (drop skip entries)) }
 {
-    let mut done = 0;
+    let mut left = items;
+    let mut from = skip;
     for segment in sealed {
-        let left = rest_of(items, done);
-        keep_segment(journal, left, skip.saturating_sub(done), &segment.frames, kept)?;
-        done += segment.count;
+        keep_segment(journal, left, from, &segment.frames, kept)?;
+        left = rest_of(left, segment.count);
+        from = from.saturating_sub(segment.count);
     }
     Ok(())
 }
@@ -107,8 +109,8 @@ fn keep_frames(
 ) -> Result<(), AllocError>
     requires said { All (IsIn journal.now) items.now }
     requires made { AreWritten frames.now (map (entry_in journal.now) items.now) }
-    ensures { AreLogOf kept.old []
-        → (are : AreWritten frames.now (map (entry_in journal.now) items.now))
+    requires none { AreLogOf kept.old [] }
+    ensures { (are : AreWritten frames.now (map (entry_in journal.now) items.now))
         → WereKept result kept.new (going_over (drop skip are.written)) }
 {
     keep_sealed(journal, items, skip, frames.sealed(), kept)?;

@@ -9,7 +9,7 @@ ghost use Rattle.dp_epochs.specs.declared.event.Event.{Event as Kept};
 ghost use Rattle.dp_epochs.specs.State.{entry_of, is_name};
 ghost use Rattle.dp_messages.specs.declared.message.Entry.{Entry as Piece};
 ghost use Rattle.dp_messages.specs.Messages.{entry_bytes};
-ghost use Rattle.dp_history.specs.Frames.{AreFramesOf, AreWritten};
+ghost use Rattle.dp_history.specs.Frames.{AreLogOf, AreWritten};
 ghost use Rattle.dp_history.specs.Items.{entry_in, IsIn, IsSay, join_of, message_of, part_of};
 
 use crate::log::FrameLog;
@@ -246,11 +246,10 @@ fn append_said(
     frames: &mut FrameLog,
 ) -> Result<(), AllocError>
     requires { IsSay (slice_get journal.now event) }
-    ensures ok { OnOk result ((entries : List Piece) → AreFramesOf frames.old entries
-        → AreFramesOf frames.new
+    ensures ok { OnOk result ((entries : List Piece) → AreLogOf frames.old entries
+        → AreLogOf frames.new
         (entries ++ entry_of user (message_of (slice_get journal.now event)) ∷ [])) }
-    ensures err { OnErr result ((entries : List Piece) → AreFramesOf frames.old entries
-        → AreFramesOf frames.new entries) }
+    ensures err { OnErr result (frames.new ≡ frames.old) }
 {
     match journal.get(event as usize) {
         Some(Event::Say { msg, .. }) => frames.append(user, msg),
@@ -266,10 +265,9 @@ fn append_item(
     frames: &mut FrameLog,
 ) -> Result<(), AllocError>
     requires { IsIn journal.now item.now }
-    ensures ok { OnOk result ((entries : List Piece) → AreFramesOf frames.old entries
-        → AreFramesOf frames.new (entries ++ entry_in journal.now item.now ∷ [])) }
-    ensures err { OnErr result ((entries : List Piece) → AreFramesOf frames.old entries
-        → AreFramesOf frames.new entries) }
+    ensures ok { OnOk result ((entries : List Piece) → AreLogOf frames.old entries
+        → AreLogOf frames.new (entries ++ entry_in journal.now item.now ∷ [])) }
+    ensures err { OnErr result (frames.new ≡ frames.old) }
 {
     match item {
         HistoryItem::Said { event, user } => append_said(journal, *event, *user, frames),

@@ -74,7 +74,8 @@ impl PageFrames {
         ensures ok { OnOk result (self.new ≡ bytes.now) }
         ensures err { OnErr result (self.new ≡ []) }
     {
-        self.clear();
+        self.share = None;
+        self.copies.clear();
         self.copies.extend_from_slice(bytes)?;
         Ok(())
     }
@@ -88,7 +89,8 @@ impl PageFrames {
         ensures ok { OnOk result (self.new ≡ entry_bytes entry.now) }
         ensures err { OnErr result (self.new ≡ []) }
     {
-        self.clear();
+        self.share = None;
+        self.copies.clear();
         put_entry(entry, &mut self.copies)
     }
 

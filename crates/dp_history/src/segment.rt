@@ -157,7 +157,8 @@ impl Segment {
             → result.now ≡ frames_of (take 1 (drop at entries)) }
     {
         let start = self.start(at);
-        self.part(start, self.start(at + 1).saturating_sub(start))
+        let end = self.ends[at];
+        self.part(start, end.saturating_sub(start))
     }
 
     /// The frames from a place on, at most this many. They have no more than `PAGE_BYTES` bytes,

@@ -25,7 +25,7 @@ returns-clause-kept c = λ are.
       kept = subst (λ n. WereKept c.keep_frames-outcome.result c.keep_frames-outcome.new.kept
           (going_over (drop n rest.written)))
           c.saturating_sub-skip.ensures
-          (c.keep_frames-outcome.ensures c.new-kept.ensures (record {
+          (c.keep_frames-outcome.ensures (record {
             written = rest.written;
             rest = rest.rest;
             of = rest.of;
