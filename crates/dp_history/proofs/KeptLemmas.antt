@@ -240,7 +240,7 @@ passed-err r q journal sealed i one left skip from kept new entries more bad wit
     let n = next-of journal sealed i one left p.todo more within is p.of p.items in
     let first = going_over (drop skip p.before) ++ going_over (drop from n.mine) in
     let whole : going_over (drop skip entries) ≡ first
-        ++ going_over (drop (skip - length (p.before ++ n.mine)) n.rest) =
+    ++ going_over (drop (skip - length (p.before ++ n.mine)) n.rest) =
     going-both skip entries (p.before ++ n.mine) n.rest
     (p.all ∙ ap (λ xs. p.before ++ xs) n.all ∙ sym (append_assoc p.before n.mine n.rest))
     ∙ ap (λ xs. xs ++ going_over (drop (skip - length (p.before ++ n.mine)) n.rest))

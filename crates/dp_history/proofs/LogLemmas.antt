@@ -37,9 +37,13 @@ pub sealed-more : (sealed : List Frames) (one : Frames) (entries mine : List Ent
 sealed-more [] one entries mine are of =
     subst (λ xs. AreSealedOf (one ∷ []) (xs ++ mine)) (sym are)
     (mine, [], of, refl, sym (append-nil mine))
-sealed-more (first ∷ others) one entries mine (own, rest, its, more, all) of =
-    (own, rest ++ mine, its, sealed-more others one rest mine more of,
-    ap (λ xs. xs ++ mine) all ∙ append_assoc own rest mine)
+sealed-more (first ∷ others) one entries mine (own, rest, its, more, all) of = (
+  own,
+  rest ++ mine,
+  its,
+  sealed-more others one rest mine more of,
+  ap (λ xs. xs ++ mine) all ∙ append_assoc own rest mine,
+)
 
 -- entries of the first segment
 pub first-part : (mine rest entries : List Entry) (at count : ℕ) → entries ≡ mine ++ rest

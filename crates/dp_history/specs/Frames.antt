@@ -54,7 +54,7 @@ pub record AreLogOf (log : Log) (entries : List Entry) : Type 0 where
 
 -- the most bytes of a page of several frames
 abbrev pub page_limit : ℕ
-page_limit = 65536
+page_limit = 262144
 
 -- these are `count` frames: one, or no more bytes than a page may have
 abbrev pub IsShort : ℕ → List ℕ → Type 0

@@ -116,7 +116,13 @@ fn keep_frames(
     keep_sealed(journal, items, skip, frames.sealed(), kept)?;
     let before = frames.before();
     let left = rest_of(items, before);
-    keep_segment(journal, left, skip.saturating_sub(before), frames.last(), kept)
+    keep_segment(
+        journal,
+        left,
+        skip.saturating_sub(before),
+        frames.last(),
+        kept,
+    )
 }
 
 impl HistoryFrames {
@@ -143,7 +149,7 @@ impl HistoryFrames {
     }
 
     /// Puts frames into a page, in place of what there was: those from a place on, at most this
-    /// many. They have no more than 65,536 bytes, unless it is one. It answers how many.
+    /// many. They have no more than 262,144 bytes, unless it is one. It answers how many.
     ///
     /// # Errors
     ///

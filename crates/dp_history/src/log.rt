@@ -16,7 +16,7 @@ use std::mem::replace;
 use std::sync::Arc;
 
 /// A segment of as many bytes is full.
-const SEGMENT_BYTES: usize = 1 << 16;
+const SEGMENT_BYTES: usize = 1 << 17;
 
 /// A full segment, which doesn't change any more. It is seen as its frames.
 #[derive(Drop)]
@@ -241,7 +241,7 @@ impl FrameLog {
     }
 
     /// Puts frames into a page, in place of what there was: those from a place on, at most this
-    /// many, and those of one segment. They have no more than 65,536 bytes, unless it is one. It
+    /// many, and those of one segment. They have no more than 262,144 bytes, unless it is one. It
     /// answers how many. Those of a full segment are shared.
     ///
     /// # Errors

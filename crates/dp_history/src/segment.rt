@@ -12,7 +12,7 @@ use std::alloc::{AllocError, Global};
 use std::marker::Model;
 
 /// A page of more bytes has one entry.
-const PAGE_BYTES: usize = 1 << 16;
+const PAGE_BYTES: usize = 1 << 18;
 
 /// Frames of entries, one after another. They are seen as their bytes and the places where they
 /// end.
