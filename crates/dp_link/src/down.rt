@@ -186,7 +186,8 @@ fn ask_page<W: Wait, K: Keeper>(
     ensures cursor { asked.new.cursor ≡ asked.old.cursor }
     ensures page { IfOk result (λ page. IsPage
         (λ most. answered (session_of hall.now.start seat.new.view)
-        (Pull asked.old.conn asked.old.cursor.epoch asked.old.cursor.at most)) page asked.new.frames) }
+        (Pull asked.old.conn asked.old.cursor.epoch asked.old.cursor.at most)) page
+        asked.new.frames) }
 {
     hall.look(rt, seat, asked);
     asked.page

@@ -45,7 +45,8 @@ returns-clause-made c = λ before long.
     let left : map f c.rest_of.result.now ≡ drop (c.args.at - base) (drop base (map f live)) =
     ap (map f) c.rest_of.ensures ∙ sym (drop-map f skip items) ∙ ap (drop skip) (sym all)
     ∙ ap (λ n. drop n (drop base (map f live))) c.saturating_sub-skip.ensures in
-    made-of-kept c.keep_frames-outcome.result c.args.self.now _ (map f live) before c.args.at c.count_kept-count.result
-    c.args.opens_with c.requires.made (returns-clause-kept c c.requires.made)
+    made-of-kept c.keep_frames-outcome.result c.args.self.now _ (map f live) before c.args.at
+    c.count_kept-count.result c.args.opens_with c.requires.made
+    (returns-clause-kept c c.requires.made)
     (c.count_kept-count.ensures ∙ ap (λ xs. length (going_over xs)) left) long
     c.saturating_sub-self.ensures

@@ -38,6 +38,7 @@ returns-then-at-self-clause-put c =
 pub returns-else-at-self-clause-put : goal.returns-else-at-self-clause-put
 returns-else-at-self-clause-put c =
     let f = c.args.self.now in
-    put-rest c.put-else-at-self.result f c.args.at c.args.most c.put-else-at-self.new.page c.if-at-self.false
+    put-rest c.put-else-at-self.result f c.args.at c.args.most
+    c.put-else-at-self.new.page c.if-at-self.false
     (rest-fits f c.args.at c.args.most c.if-at-self.false c.requires.some c.requires.most)
     c.put-else-at-self.ensures.most c.put-else-at-self.ensures.put
