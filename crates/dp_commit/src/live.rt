@@ -105,7 +105,7 @@ pub fn keep_frames(
         frames.new }
 {
     if let Supply::Opens(opening) = supply {
-        frames.keep(journal, live, from, opening.live.len());
+        let _ = frames.keep(journal, live, from, opening.live.len());
     }
 }
 

@@ -32,7 +32,7 @@ use Rattle.std.proofs.lemmas.List.Elements.{filter_map-append}
 use Rattle.dp_msg_meta.specs.declared.message.Meta.{Meta}
 use Rattle.dp_history.specs.declared.item.HistoryItem.{HistoryItem}
 use Rattle.std.proofs.lemmas.Option.{slice_get-map, slice_get-get_or}
-use Rattle.dp_history.specs.Frames.{Frames, AreFramesOf, AreWritten}
+use Rattle.dp_history.specs.Frames.{Log, AreLogOf, AreWritten}
 use Rattle.dp_messages.specs.declared.message.Msg.TheVariants as msg
 use Rattle.dp_history.specs.declared.item.HistoryItem.TheVariants as item
 
@@ -316,11 +316,11 @@ pub found-at : {X : Type 0} (xs : List X) (at : ℕ) (x : X) → at < length xs 
     → slice_get xs at ≡ Some x
 found-at xs at x within is = slice_get-get_or xs at x within ∙ ap Some (sym is)
 
-pub written-more : (old new : Frames) (journal : List Event) (live : List HistoryItem)
+pub written-more : (old new : Log) (journal : List Event) (live : List HistoryItem)
     (item : HistoryItem) (entry : Entry)
     → (are : AreWritten old (map (entry_in journal) live))
     → slice_get live (length are.written) ≡ Some item → entry ≡ entry_in journal item
-    → ((entries : List Entry) → AreFramesOf old entries → AreFramesOf new (entries ++ entry ∷ []))
+    → ((entries : List Entry) → AreLogOf old entries → AreLogOf new (entries ++ entry ∷ []))
     → AreWritten new (map (entry_in journal) live)
 written-more old new journal live item entry are found is more =
     let n = length are.written in

@@ -1,5 +1,6 @@
 pub mod FrameLemmas
-pub mod MoveLemmas
+pub mod LogLemmas
 pub mod MadeLemmas
+pub mod KeptLemmas
 pub mod Ranges
 pub mod ItemLemmas

@@ -1,6 +1,5 @@
 pub mod Frames
 pub mod Items
 pub mod Made
-pub mod Moves
 pub mod Openings
 pub mod Users

@@ -1,14 +1,19 @@
 //! The frames of a history: which were made, and which of them go over into the next epoch.
 
 ghost use Rattle.std.specs.Prelude.{◌≡◌, ◌+◌, ◌<◌, ◌≤◌, ◌++◌, List, All, map, length, take, drop};
-ghost use Rattle.std.specs.Prelude.{IfOk, OnErr};
+ghost use Rattle.std.specs.Prelude.{◌∷◌, [], IfOk, OnOk, OnErr};
 ghost use Rattle.dp_messages.specs.declared.message.Entry.{Entry as Piece};
-ghost use Rattle.dp_history.specs.Frames.{AreFramesOf, AreWritten, IsShort, frames_of};
+ghost use Rattle.dp_messages.specs.Messages.{entry_bytes};
+ghost use Rattle.dp_history.specs.Frames.{AreFramesOf, AreSealedOf, AreLogOf, AreWritten};
+ghost use Rattle.dp_history.specs.Frames.{IsShort, frames_of};
 ghost use Rattle.dp_history.specs.Items.{entry_in, IsIn};
-ghost use Rattle.dp_history.specs.Made.{AreKept, AreMadeOf, going_over, made_at};
+ghost use Rattle.dp_history.specs.Made.{AreKept, AreMadeOf, WereKept, going_over};
+ghost use Rattle.dp_history.specs.Made.{made_at};
 
 use crate::item::{HistoryItem, count_kept, is_kept, write_all};
-use crate::log::FrameLog;
+use crate::log::{FrameLog, Sealed};
+use crate::page::PageFrames;
+use crate::segment::Segment;
 use dp_epochs::Event;
 use dp_lists::{prefix_of, rest_of};
 use std::alloc::{AllocError, Global};
@@ -25,19 +30,99 @@ pub struct HistoryFrames {
     rest: FrameLog,
 }
 
-/// Keeps the frames of those entries from a place on that go over. It takes no memory.
-fn keep_frames(journal: &[Event], items: &[HistoryItem], skip: usize, frames: &mut FrameLog)
-    requires said { All (IsIn journal.now) items.now }
-    requires made { AreWritten frames.old (map (entry_in journal.now) items.now) }
-    ensures { (are : AreWritten frames.old (map (entry_in journal.now) items.now))
-        → AreFramesOf frames.new (going_over (drop skip are.written)) }
+/// Adds a copy of the frame of an entry to those that are kept, if the entry goes over.
+fn keep_frame(
+    journal: &[Event],
+    item: &HistoryItem,
+    frame: &[u8],
+    kept: &mut FrameLog,
+) -> Result<(), AllocError>
+    requires { IsIn journal.now item.now }
+    ensures ok { OnOk result ((before : List Piece) → AreLogOf kept.old before
+        → frame.now ≡ entry_bytes (entry_in journal.now item.now)
+        → AreLogOf kept.new (before ++ going_over (entry_in journal.now item.now ∷ []))) }
+    ensures err { OnErr result (kept.new ≡ kept.old) }
 {
-    let first = skip.min(frames.len());
-    let mut moved = frames.skip(first);
-    for at in first..frames.len() {
-        moved = frames.pass(at, is_kept(journal, &items[at]), moved);
+    if is_kept(journal, item) {
+        kept.add(frame)?;
     }
-    frames.cut(moved);
+    Ok(())
+}
+
+/// Adds copies of the frames of a segment, those from a place on of entries that go over.
+fn keep_segment(
+    journal: &[Event],
+    items: &[HistoryItem],
+    skip: usize,
+    segment: &Segment,
+    kept: &mut FrameLog,
+) -> Result<(), AllocError>
+    requires said { All (IsIn journal.now) items.now }
+    requires made { (mine : List Piece) × (more : List Piece) × AreFramesOf segment.now mine
+        × (map (entry_in journal.now) items.now ≡ mine ++ more) }
+    ensures { (before : List Piece) (mine : List Piece) (more : List Piece)
+        → AreLogOf kept.old before → AreFramesOf segment.now mine
+        → map (entry_in journal.now) items.now ≡ mine ++ more
+        → WereKept result kept.new (before ++ going_over (drop skip mine)) }
+{
+    let count = segment.len().min(items.len());
+    let first = skip.min(count);
+    for at in first..count {
+        keep_frame(journal, &items[at], segment.frame(at), kept)?;
+    }
+    Ok(())
+}
+
+/// Adds copies of the frames of segments, those from a place on of entries that go over.
+fn keep_sealed(
+    journal: &[Event],
+    items: &[HistoryItem],
+    skip: usize,
+    sealed: &[Sealed],
+    kept: &mut FrameLog,
+) -> Result<(), AllocError>
+    requires said { All (IsIn journal.now) items.now }
+    requires made { (entries : List Piece) × (more : List Piece) × AreSealedOf sealed.now entries
+        × (map (entry_in journal.now) items.now ≡ entries ++ more) }
+    requires none { AreLogOf kept.old [] }
+    ensures { (entries : List Piece) (more : List Piece) → AreSealedOf sealed.now entries
+        → map (entry_in journal.now) items.now ≡ entries ++ more
+        → WereKept result kept.new (going_over (drop skip entries)) }
+{
+    let mut left = items;
+    let mut from = skip;
+    for segment in sealed {
+        keep_segment(journal, left, from, &segment.frames, kept)?;
+        left = rest_of(left, segment.count);
+        from = from.saturating_sub(segment.count);
+    }
+    Ok(())
+}
+
+/// Adds copies of the frames of a log, those from a place on of entries that go over.
+fn keep_frames(
+    journal: &[Event],
+    items: &[HistoryItem],
+    skip: usize,
+    frames: &FrameLog,
+    kept: &mut FrameLog,
+) -> Result<(), AllocError>
+    requires said { All (IsIn journal.now) items.now }
+    requires made { AreWritten frames.now (map (entry_in journal.now) items.now) }
+    requires none { AreLogOf kept.old [] }
+    ensures { (are : AreWritten frames.now (map (entry_in journal.now) items.now))
+        → WereKept result kept.new (going_over (drop skip are.written)) }
+{
+    keep_sealed(journal, items, skip, frames.sealed(), kept)?;
+    let before = frames.before();
+    let left = rest_of(items, before);
+    keep_segment(
+        journal,
+        left,
+        skip.saturating_sub(before),
+        frames.last(),
+        kept,
+    )
 }
 
 impl HistoryFrames {
@@ -63,27 +148,27 @@ impl HistoryFrames {
         }
     }
 
-    /// Adds the frames from a place on at the end of the bytes, at most this many. They have no
-    /// more than 65,536 bytes, unless it is one. It answers how many.
+    /// Puts frames into a page, in place of what there was: those from a place on, at most this
+    /// many. They have no more than 262,144 bytes, unless it is one. It answers how many.
     ///
     /// # Errors
     ///
-    /// Memory ran out: the bytes are as they were.
-    pub fn put(&self, at: usize, most: usize, out: &mut Vec<u8>) -> Result<usize, AllocError>
+    /// Memory ran out: no frame is in the page.
+    pub fn put(&self, at: usize, most: usize, page: &mut PageFrames) -> Result<usize, AllocError>
         requires made { (history : List Piece) × AreMadeOf self.now history }
         requires some { 0 < most }
         requires most { most ≤ made_at self.now at }
         ensures some { IfOk result (λ count. 0 < count) }
         ensures most { IfOk result (λ count. count ≤ most) }
         ensures put { IfOk result (λ count. (history : List Piece) → AreMadeOf self.now history
-            → out.new.items ≡ out.old.items ++ frames_of (take count (drop at history))) }
-        ensures short { IfOk result (λ count. IsShort count out.old.items out.new.items) }
-        ensures err { OnErr result (out.new.items ≡ out.old.items) }
+            → page.new ≡ frames_of (take count (drop at history))) }
+        ensures short { IfOk result (λ count. IsShort count page.new) }
+        ensures err { OnErr result (page.new ≡ []) }
     {
         if at < self.base {
-            self.front.put(at, most, out)
+            self.front.put(at, most, page)
         } else {
-            self.rest.put(at - self.base, most, out)
+            self.rest.put(at - self.base, most, page)
         }
     }
 
@@ -98,23 +183,37 @@ impl HistoryFrames {
     }
 
     /// Keeps the frames of those entries from a place on that go over into an epoch, which opens
-    /// with `opens_with` entries, these last. It takes no memory.
-    pub fn keep(&mut self, journal: &[Event], live: &[HistoryItem], at: usize, opens_with: usize)
+    /// with `opens_with` entries, these last.
+    ///
+    /// # Errors
+    ///
+    /// Memory ran out: the first of them are kept.
+    pub fn keep(
+        &mut self,
+        journal: &[Event],
+        live: &[HistoryItem],
+        at: usize,
+        opens_with: usize,
+    ) -> Result<(), AllocError>
         requires said { All (IsIn journal.now) live.now }
         requires made { AreMadeOf self.old (map (entry_in journal.now) live.now) }
         ensures kept { (are : AreMadeOf self.old (map (entry_in journal.now) live.now))
-            → AreKept self.old at are.rest.written self.new }
+            → AreKept result self.old at are.rest.written self.new }
         ensures made { (before : List Piece)
             → opens_with ≡ length (before
             ++ going_over (drop at (map (entry_in journal.now) live.now)))
             → AreMadeOf self.new (before
             ++ going_over (drop at (map (entry_in journal.now) live.now))) }
     {
+        let alloc = self.rest.allocator();
         let items = rest_of(live, self.base);
         let skip = at.saturating_sub(self.base);
         let count = count_kept(journal, rest_of(items, skip));
-        keep_frames(journal, items, skip, &mut self.rest);
-        self.front = FrameLog::new(self.rest.allocator());
+        let mut kept = FrameLog::new(alloc);
+        let outcome = keep_frames(journal, items, skip, &self.rest, &mut kept);
+        self.front = FrameLog::new(alloc);
         self.base = opens_with.saturating_sub(count);
+        self.rest = kept;
+        outcome
     }
 }

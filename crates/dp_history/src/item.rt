@@ -9,12 +9,13 @@ ghost use Rattle.dp_epochs.specs.declared.event.Event.{Event as Kept};
 ghost use Rattle.dp_epochs.specs.State.{entry_of, is_name};
 ghost use Rattle.dp_messages.specs.declared.message.Entry.{Entry as Piece};
 ghost use Rattle.dp_messages.specs.Messages.{entry_bytes};
-ghost use Rattle.dp_history.specs.Frames.{AreFramesOf, AreWritten};
+ghost use Rattle.dp_history.specs.Frames.{AreLogOf, AreWritten};
 ghost use Rattle.dp_history.specs.Items.{entry_in, IsIn, IsSay, join_of, message_of, part_of};
 
 use crate::log::FrameLog;
+use crate::page::PageFrames;
 use dp_epochs::{Entries, Event};
-use dp_messages::{Entry, Msg, put_entry};
+use dp_messages::{Entry, Msg};
 use dp_msg_meta::{Meta, Text};
 use std::alloc::{AllocError, Global};
 
@@ -220,20 +221,21 @@ pub fn copies(
     Ok(Entries::from_vec(entries))
 }
 
-/// Puts the frame of an entry that is kept beside the journal at the end of the bytes.
+/// Puts the frame of an entry that is kept beside the journal into a page, in place of what there
+/// was.
 pub fn put_item(
     alloc: Global,
     journal: &[Event],
     item: &HistoryItem,
-    out: &mut Vec<u8>,
+    page: &mut PageFrames,
 ) -> Result<(), AllocError>
     requires { IsIn journal.now item.now }
-    ensures ok { OnOk result (out.new.items
-        ≡ out.old.items ++ entry_bytes (entry_in journal.now item.now)) }
-    ensures err { OnErr result (out.new.items ≡ out.old.items) }
+    ensures ok { OnOk result (page.new ≡ entry_bytes (entry_in journal.now item.now)) }
+    ensures err { OnErr result (page.new ≡ []) }
 {
+    page.clear();
     let entry = entry(alloc, journal, item)?;
-    put_entry(&entry, out)
+    page.put(&entry)
 }
 
 /// Adds the frame of the message that the event says.
@@ -244,11 +246,10 @@ fn append_said(
     frames: &mut FrameLog,
 ) -> Result<(), AllocError>
     requires { IsSay (slice_get journal.now event) }
-    ensures ok { OnOk result ((entries : List Piece) → AreFramesOf frames.old entries
-        → AreFramesOf frames.new
+    ensures ok { OnOk result ((entries : List Piece) → AreLogOf frames.old entries
+        → AreLogOf frames.new
         (entries ++ entry_of user (message_of (slice_get journal.now event)) ∷ [])) }
-    ensures err { OnErr result ((entries : List Piece) → AreFramesOf frames.old entries
-        → AreFramesOf frames.new entries) }
+    ensures err { OnErr result (frames.new ≡ frames.old) }
 {
     match journal.get(event as usize) {
         Some(Event::Say { msg, .. }) => frames.append(user, msg),
@@ -264,10 +265,9 @@ fn append_item(
     frames: &mut FrameLog,
 ) -> Result<(), AllocError>
     requires { IsIn journal.now item.now }
-    ensures ok { OnOk result ((entries : List Piece) → AreFramesOf frames.old entries
-        → AreFramesOf frames.new (entries ++ entry_in journal.now item.now ∷ [])) }
-    ensures err { OnErr result ((entries : List Piece) → AreFramesOf frames.old entries
-        → AreFramesOf frames.new entries) }
+    ensures ok { OnOk result ((entries : List Piece) → AreLogOf frames.old entries
+        → AreLogOf frames.new (entries ++ entry_in journal.now item.now ∷ [])) }
+    ensures err { OnErr result (frames.new ≡ frames.old) }
 {
     match item {
         HistoryItem::Said { event, user } => append_said(journal, *event, *user, frames),

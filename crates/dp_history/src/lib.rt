@@ -6,9 +6,12 @@ mod frames;
 mod item;
 mod log;
 mod opening;
+mod page;
 mod presence;
+mod segment;
 
 pub use frames::HistoryFrames;
 pub use item::{HistoryItem, copies, count_kept, entry, join_entry, name_text, put_item};
 pub use opening::Opening;
+pub use page::PageFrames;
 pub use presence::{first_operator, free_id, next_operator, present_ids};

@@ -1,85 +1,172 @@
 //! The frames of a history, as they are sent.
 
 ghost use Rattle.std.specs.Prelude.{◌≡◌, ◌+◌, ◌<◌, ◌≤◌, ◌∷◌, ◌++◌, [], List, length, take, drop};
-ghost use Rattle.std.specs.Prelude.{ℕ, ◌-◌, ◌⊎◌, slice_index_or, IfOk, OnOk, OnErr};
+ghost use Rattle.std.specs.Prelude.{IfOk, OnOk, OnErr};
 ghost use Rattle.dp_messages.specs.declared.message.Entry.{Entry as Piece};
-ghost use Rattle.std.specs.Prelude.{if◌then◌else◌};
-ghost use Rattle.dp_history.specs.Frames.{AreFramesOf, IsShort, frames_of};
-ghost use Rattle.dp_history.specs.Moves.{AreMoved};
+ghost use Rattle.dp_messages.specs.Messages.{entry_bytes};
+ghost use Rattle.dp_history.specs.Frames.{AreFramesOf, AreSealedOf, AreLogOf, IsShort};
+ghost use Rattle.dp_history.specs.Frames.{frame_count, frames_of, sealed_count};
 
-use dp_lists::{prefix_of, rest_of};
-use dp_messages::{Msg, put_message};
-use std::alloc::{AllocError, Global};
+use crate::page::PageFrames;
+use crate::segment::{Segment, Span};
+use dp_messages::Msg;
+use std::alloc::{AllocError, AllocFailed, Global};
 use std::marker::Model;
+use std::mem::replace;
+use std::sync::Arc;
 
-/// A page of more bytes has one entry.
-const PAGE_BYTES: usize = 1 << 16;
+/// A segment of as many bytes is full.
+const SEGMENT_BYTES: usize = 1 << 17;
 
-/// Frames of entries, one after another, so that each is made once for all who get it. It is seen
-/// as their bytes and the places where they end.
+/// A full segment, which doesn't change any more. It is seen as its frames.
 #[derive(Drop)]
-pub struct FrameLog {
-    bytes: Vec<u8>,
-    ends: Vec<usize>,
+pub(crate) struct Sealed {
+    pub frames: Arc<Segment>,
+    /// How many frames it has.
+    pub count: usize,
 }
 
-impl Model for FrameLog {
+impl Model for Sealed {
+    ghost use Rattle.std.specs.Prelude.{◌≡◌, length};
     ghost use Rattle.dp_history.specs.Frames.{Frames};
 
     ghost Value = { Frames };
 
-    ghost view = { λ log. record { bytes = log.bytes.items; ends = log.ends.items } };
+    ghost view = { λ sealed. sealed.frames.value };
+
+    ghost invariant = { λ sealed. sealed.count ≡ length sealed.frames.value.ends };
 }
 
-/// How far the frames of a log were looked at, from its first on, and which of them were kept.
-#[derive(Clone, Copy)]
-pub(crate) struct Moved {
-    /// Where the next frame begins.
-    begin: usize,
-    /// How many bytes the frames that were kept have.
-    size: usize,
-    /// How many were kept.
-    count: usize,
+/// Frames of entries, one after another, so that each is made once for all who get it. Segments
+/// that are full are shared with those who write them. Frames are added to the last segment.
+#[derive(Drop)]
+pub struct FrameLog {
+    sealed: Vec<Sealed>,
+    last: Segment,
+    /// How many frames there are.
+    len: usize,
 }
 
-/// How many of the frames that end at these places end up to a limit, or one.
-fn count_within(ends: &[usize], limit: usize) -> usize
-    requires { 0 < length ends.now }
-    ensures some { 0 < result }
-    ensures within { result ≤ length ends.now }
-    ensures limit { (result ≡ 1) ⊎ (slice_index_or ends.now (result - 1) 0 ≤ limit) }
-{
-    let mut count = 1;
-    let mut end = ends.len();
-    while count < end {
-        let middle = count + (end - count) / 2;
-        if ends[middle] <= limit {
-            count = middle + 1;
-        } else {
-            end = middle;
-        }
+impl Model for FrameLog {
+    ghost use Rattle.std.specs.Prelude.{◌≡◌};
+    ghost use Rattle.dp_history.specs.Frames.{Log, frame_count};
+
+    ghost Value = { Log };
+
+    ghost view = { λ log. record { sealed = log.sealed.items; last = log.last } };
+
+    ghost invariant = { λ log. log.len
+        ≡ frame_count (record { sealed = log.sealed.items; last = log.last }) };
+}
+
+impl Sealed {
+    /// Shares the frames from a place on, at most this many, with a page.
+    fn share(&self, at: usize, most: usize, page: &mut PageFrames) -> Result<usize, AllocError>
+        requires at { at < length self.now.ends }
+        requires are { (entries : List Piece) × AreFramesOf self.now entries }
+        requires some { 0 < most }
+        ensures some { IfOk result (λ count. 0 < count) }
+        ensures most { IfOk result (λ count. (count ≤ most) × (at + count ≤ length self.now.ends)) }
+        ensures put { IfOk result (λ count. (entries : List Piece) → AreFramesOf self.now entries
+            → page.new ≡ frames_of (take count (drop at entries))) }
+        ensures short { IfOk result (λ count. IsShort count page.new) }
+        ensures err { OnErr result (page.new ≡ []) }
+    {
+        let most = most.min(self.count - at);
+        let Span { start, size, count } = self.frames.span(at, most);
+        page.share(&self.frames, start, size)?;
+        Ok(count)
     }
-    count
+}
+
+/// Shares frames of these segments with a page: those from a place on, at most this many, as far as
+/// the segment goes in which the first one stands.
+fn share_of(
+    sealed: &[Sealed],
+    at: usize,
+    most: usize,
+    page: &mut PageFrames,
+) -> Result<usize, AllocError>
+    requires are { (entries : List Piece) × AreSealedOf sealed.now entries
+        × (at < length entries) }
+    requires some { 0 < most }
+    ensures some { IfOk result (λ count. 0 < count) }
+    ensures most { IfOk result (λ count. count ≤ most) }
+    ensures put { IfOk result (λ count. (entries : List Piece) → AreSealedOf sealed.now entries
+        → page.new ≡ frames_of (take count (drop at entries))) }
+    ensures within { IfOk result (λ count. (entries : List Piece) → AreSealedOf sealed.now entries
+        → at + count ≤ length entries) }
+    ensures short { IfOk result (λ count. IsShort count page.new) }
+    ensures err { OnErr result (page.new ≡ []) }
+{
+    let mut place = at;
+    for segment in sealed {
+        if place < segment.count {
+            return segment.share(place, most, page);
+        }
+        place -= segment.count;
+    }
+    unreachable!()
 }
 
 impl FrameLog {
     /// No frame.
     pub fn new(alloc: Global) -> FrameLog
-        ensures { AreFramesOf result [] }
+        ensures { AreLogOf result [] }
     {
         FrameLog {
-            bytes: Vec::new(alloc),
-            ends: Vec::new(alloc),
+            sealed: Vec::new(alloc),
+            last: Segment::new(alloc),
+            len: 0,
         }
     }
 
     /// How many frames there are.
     pub fn len(&self) -> usize
-        ensures ends { result ≡ length self.now.ends }
-        ensures entries { (entries : List Piece) → AreFramesOf self.now entries
+        ensures count { result ≡ frame_count self.now }
+        ensures entries { (entries : List Piece) → AreLogOf self.now entries
             → result ≡ length entries }
     {
-        self.ends.len()
+        self.len
+    }
+
+    /// How many frames the full segments have.
+    pub(crate) fn before(&self) -> usize
+        ensures { result ≡ sealed_count self.now.sealed }
+    {
+        self.len - self.last.len()
+    }
+
+    /// Where the memory of the frames comes from.
+    pub(crate) fn allocator(&self) -> Global {
+        self.last.allocator()
+    }
+
+    /// Seals the last segment, as far as memory goes.
+    fn seal(&mut self)
+        ensures { (entries : List Piece) → AreLogOf self.old entries → AreLogOf self.new entries }
+    {
+        let alloc = self.allocator();
+        if self.sealed.reserve(1).is_err() {
+            return;
+        }
+        let count = self.last.len();
+        let next = Segment::with_room(alloc, SEGMENT_BYTES);
+        match Arc::new(alloc, replace(&mut self.last, next)) {
+            Ok(frames) => {
+                self.sealed.push_reserved(Sealed { frames, count });
+            }
+            Err(AllocFailed { value }) => self.last = value,
+        }
+    }
+
+    /// Seals the last segment if it is full.
+    fn seal_full(&mut self)
+        ensures { (entries : List Piece) → AreLogOf self.old entries → AreLogOf self.new entries }
+    {
+        if self.last.size() >= SEGMENT_BYTES {
+            self.seal();
+        }
     }
 
     /// Adds the frame of one more entry.
@@ -88,101 +175,94 @@ impl FrameLog {
     ///
     /// The frames are those that there were.
     pub fn append(&mut self, user: u8, msg: &Msg) -> Result<(), AllocError>
-        ensures ok { OnOk result ((entries : List Piece) → AreFramesOf self.old entries
-            → AreFramesOf self.new (entries ++ record { user = user; msg = msg.now } ∷ [])) }
-        ensures err { OnErr result ((entries : List Piece) → AreFramesOf self.old entries
-            → AreFramesOf self.new entries) }
+        ensures ok { OnOk result ((entries : List Piece) → AreLogOf self.old entries
+            → AreLogOf self.new (entries ++ record { user = user; msg = msg.now } ∷ [])) }
+        ensures err { OnErr result (self.new ≡ self.old) }
     {
-        self.ends.reserve(1)?;
-        put_message(user, msg, &mut self.bytes)?;
-        self.ends.push_reserved(self.bytes.len());
+        let Some(len) = self.len.checked_add(1) else {
+            return Err(AllocError);
+        };
+        self.last.append(user, msg)?;
+        self.len = len;
+        self.seal_full();
         Ok(())
     }
 
-    /// Where the frame of the entry at a place begins, or where the last one ends.
-    fn start(&self, at: usize) -> usize
-        requires { (entries : List Piece) × AreFramesOf self.now entries × (at ≤ length entries) }
-        ensures { (entries : List Piece) → AreFramesOf self.now entries
-            → result ≡ length (frames_of (take at entries)) }
-    {
-        if at == 0 { 0 } else { self.ends[at - 1] }
-    }
-
-    /// Adds the frames from a place on at the end of the bytes, at most this many. They have no
-    /// more than `PAGE_BYTES` bytes, unless it is one. It answers how many.
+    /// Adds a copy of the frame of an entry.
     ///
     /// # Errors
     ///
-    /// The bytes are as they were.
-    pub fn put(&self, at: usize, most: usize, out: &mut Vec<u8>) -> Result<usize, AllocError>
-        requires are { (entries : List Piece) × AreFramesOf self.now entries
+    /// The frames are those that there were.
+    pub(crate) fn add(&mut self, frame: &[u8]) -> Result<(), AllocError>
+        ensures ok { OnOk result ((entries : List Piece) (entry : Piece)
+            → AreLogOf self.old entries → frame.now ≡ entry_bytes entry
+            → AreLogOf self.new (entries ++ entry ∷ [])) }
+        ensures err { OnErr result (self.new ≡ self.old) }
+    {
+        let Some(len) = self.len.checked_add(1) else {
+            return Err(AllocError);
+        };
+        self.last.add(frame)?;
+        self.len = len;
+        self.seal_full();
+        Ok(())
+    }
+
+    /// The full segments.
+    pub(crate) fn sealed(&self) -> &[Sealed]
+        ensures { result.now ≡ self.now.sealed }
+    {
+        self.sealed.as_slice()
+    }
+
+    /// The last segment.
+    pub(crate) fn last(&self) -> &Segment
+        ensures { result.now ≡ self.now.last }
+    {
+        &self.last
+    }
+
+    /// Copies frames of the last segment into a page: those from a place on, at most this many.
+    fn copy_of(&self, at: usize, most: usize, page: &mut PageFrames) -> Result<usize, AllocError>
+        requires are { (entries : List Piece) × AreFramesOf self.now.last entries
             × (at + most ≤ length entries) }
         requires some { 0 < most }
         ensures some { IfOk result (λ count. 0 < count) }
         ensures most { IfOk result (λ count. count ≤ most) }
-        ensures put { IfOk result (λ count. (entries : List Piece) → AreFramesOf self.now entries
-            → out.new.items ≡ out.old.items ++ frames_of (take count (drop at entries))) }
-        ensures short { IfOk result (λ count. IsShort count out.old.items out.new.items) }
-        ensures err { OnErr result (out.new.items ≡ out.old.items) }
+        ensures put { IfOk result (λ count. (entries : List Piece)
+            → AreFramesOf self.now.last entries
+            → page.new ≡ frames_of (take count (drop at entries))) }
+        ensures short { IfOk result (λ count. IsShort count page.new) }
+        ensures err { OnErr result (page.new ≡ []) }
     {
-        let start = self.start(at);
-        let ends = prefix_of(rest_of(&self.ends, at), most);
-        let count = count_within(ends, start.saturating_add(PAGE_BYTES));
-        let size = self.start(at + count).saturating_sub(start);
-        out.extend_from_slice(prefix_of(rest_of(&self.bytes, start), size))?;
+        let Span { start, size, count } = self.last.span(at, most);
+        page.copy(self.last.part(start, size))?;
         Ok(count)
     }
 
-    /// Where the memory of the frames comes from.
-    pub(crate) fn allocator(&self) -> Global {
-        *self.bytes.allocator()
-    }
-
-    /// Leaves out the frames before a place.
-    pub(crate) fn skip(&self, at: usize) -> Moved
-        requires { (entries : List Piece) × AreFramesOf self.now entries × (at ≤ length entries) }
-        ensures { (entries : List Piece) → AreFramesOf self.now entries
-            → AreMoved self.now at result [] (drop at entries) }
+    /// Puts frames into a page, in place of what there was: those from a place on, at most this
+    /// many, and those of one segment. They have no more than 262,144 bytes, unless it is one. It
+    /// answers how many. Those of a full segment are shared.
+    ///
+    /// # Errors
+    ///
+    /// No frame is in the page.
+    pub fn put(&self, at: usize, most: usize, page: &mut PageFrames) -> Result<usize, AllocError>
+        requires are { (entries : List Piece) × AreLogOf self.now entries
+            × (at + most ≤ length entries) }
+        requires some { 0 < most }
+        ensures some { IfOk result (λ count. 0 < count) }
+        ensures most { IfOk result (λ count. count ≤ most) }
+        ensures put { IfOk result (λ count. (entries : List Piece) → AreLogOf self.now entries
+            → page.new ≡ frames_of (take count (drop at entries))) }
+        ensures short { IfOk result (λ count. IsShort count page.new) }
+        ensures err { OnErr result (page.new ≡ []) }
     {
-        Moved {
-            begin: self.start(at),
-            size: 0,
-            count: 0,
+        let before = self.before();
+        if at < before {
+            share_of(&self.sealed, at, most, page)
+        } else {
+            self.copy_of(at - before, most, page)
         }
-    }
-
-    /// Looks at the frame at a place. It is moved down to those that were kept, or left out.
-    pub(crate) fn pass(&mut self, at: usize, keeps: bool, moved: Moved) -> Moved
-        requires { (kept : List Piece) × (entry : Piece) × (left : List Piece)
-            × AreMoved self.old at moved kept (entry ∷ left) }
-        ensures { (kept : List Piece) (entry : Piece) (left : List Piece)
-            → AreMoved self.old at moved kept (entry ∷ left)
-            → AreMoved self.new (at + 1) result
-            (if keeps then kept ++ entry ∷ [] else kept) left }
-    {
-        let end = self.ends[at];
-        if !keeps {
-            return Moved {
-                begin: end,
-                ..moved
-            };
-        }
-        let size = moved.size + (end - moved.begin);
-        self.bytes.copy_within(moved.begin..end, moved.size);
-        self.ends[moved.count] = size;
-        Moved {
-            begin: end,
-            size,
-            count: moved.count + 1,
-        }
-    }
-
-    /// Takes all frames away but those that were kept.
-    pub(crate) fn cut(&mut self, moved: Moved)
-        ensures { (at : ℕ) (kept : List Piece) → AreMoved self.old at moved kept []
-            → AreFramesOf self.new kept }
-    {
-        self.bytes.truncate(moved.size);
-        self.ends.truncate(moved.count);
     }
 }

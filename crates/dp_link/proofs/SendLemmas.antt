@@ -184,7 +184,7 @@ sends-page (Err down.NotGreeted) past conn held taken later old new epoch at lis
 -- what a Pull at the cursor may be answered, as frames
 abbrev pub PageAt : Past → ℕ → Cursor → Option Page → List ℕ → Type 0
 PageAt past conn cursor page frames =
-    IsPage (λ most. answered past (Pull conn cursor.epoch cursor.at most)) page [] frames
+    IsPage (λ most. answered past (Pull conn cursor.epoch cursor.at most)) page frames
 
 page-answer : {T : Type 0} (result : Result T DownEnd) (past : Past) (conn most : ℕ)
     (held taken later : Option (List ℕ)) (old new : Cursor) (page : Page) (frames : List ℕ)
@@ -194,7 +194,7 @@ page-answer : {T : Type 0} (result : Result T DownEnd) (past : Past) (conn most 
     → PullsOn (state_of past) conn h.earlier h.last epoch at list)
     → SentTo past conn held taken old
     → answer ≡ answered past (Pull conn old.epoch old.at most)
-    → AnswersBy answer (Some page) [] frames
+    → AnswersBy answer (Some page) frames
     → ((list : List Entry) → page.count ≡ length list → frames ≡ frames_of list
     → WritesPage result taken later page.epoch page.at list new)
     → SendsPage past conn held later new result
@@ -225,7 +225,7 @@ page-goes result past conn held taken later old new page frames goes_on h is wri
     (λ epoch at list s. goes_on s.earlier s.last is.0 epoch at list s.feed)
     h refl is.1 writes
 
-gone-answer : (answer : Answer) (frames : List ℕ) → AnswersBy answer None [] frames
+gone-answer : (answer : Answer) (frames : List ℕ) → AnswersBy answer None frames
     → answer ≡ Gone
 gone-answer Gone frames by = refl
 gone-answer (Entries epoch at list) frames by = absurd by

@@ -91,5 +91,4 @@ pub record SeesPage (old : Asked) (past : Past) (new : Asked) : Type 0 where
   pub conn : new.conn ≡ old.conn
   pub cursor : new.cursor ≡ old.cursor
   pub page : IfOk new.page (λ page. IsPage
-      (λ most. answered past (Pull old.conn old.cursor.epoch old.cursor.at most)) page []
-      new.frames.items)
+      (λ most. answered past (Pull old.conn old.cursor.epoch old.cursor.at most)) page new.frames)

@@ -22,7 +22,7 @@ use dp_epochs::{Event, Reply};
 use dp_hall::{Hall, Seat, calls_add_up, seats_are_sound};
 use dp_io::{Failed, Sink, put_all};
 use dp_keeper::Keeper;
-use dp_session::{Page, Session};
+use dp_session::{Page, PageFrames, Session};
 use dp_session_laws::{feeds_begin, feeds_end, feeds_go_on, pulls_go_on, sessions_go_on};
 use std::alloc::{AllocError, Global};
 use std::sync::Wait;
@@ -73,7 +73,7 @@ pub fn pump_down<W: Wait, K: Keeper, S: Sink>(
             epoch: greeting.epoch,
             at: 0,
         },
-        frames: Vec::new(alloc),
+        frames: PageFrames::new(alloc),
         page: Ok(None),
     };
     'pages: for _ in rt.forever() {
@@ -115,7 +115,7 @@ fn send_more<W: Wait, K: Keeper, S: Sink>(
     let seen = hall.count(seat);
     match send_page(rt, hall, seat, tx, greeting, asked) {
         Ok(true) => {
-            rest_after(rt, hall, asked.frames.len());
+            rest_after(rt, hall, asked.frames.as_slice().len());
             Ok(())
         }
         Ok(false) => {
@@ -165,7 +165,7 @@ fn send_page<W: Wait, K: Keeper, S: Sink>(
     pulls_go_on();
     feeds_end();
     match ask_page(rt, hall, seat, asked) {
-        Ok(Some(page)) => write_page(tx, &asked.frames, &mut asked.cursor, page),
+        Ok(Some(page)) => write_page(tx, asked.frames.as_slice(), &mut asked.cursor, page),
         Ok(None) => Err(DownEnd::Gone),
         Err(AllocError) => Err(DownEnd::Memory),
     }
@@ -186,8 +186,8 @@ fn ask_page<W: Wait, K: Keeper>(
     ensures cursor { asked.new.cursor ≡ asked.old.cursor }
     ensures page { IfOk result (λ page. IsPage
         (λ most. answered (session_of hall.now.start seat.new.view)
-        (Pull asked.old.conn asked.old.cursor.epoch asked.old.cursor.at most)) page []
-        asked.new.frames.items) }
+        (Pull asked.old.conn asked.old.cursor.epoch asked.old.cursor.at most)) page
+        asked.new.frames) }
 {
     hall.look(rt, seat, asked);
     asked.page

@@ -4,7 +4,7 @@ ghost use Rattle.dp_link.specs.Sending.{SeesPage};
 
 use dp_hall::Look;
 use dp_keeper::Keeper;
-use dp_session::{Page, Session};
+use dp_session::{Page, PageFrames, Session};
 use std::alloc::AllocError;
 
 /// Where the next entry for a peer stands.
@@ -20,7 +20,7 @@ pub(crate) struct Cursor {
 pub(crate) struct Asked {
     pub conn: u32,
     pub cursor: Cursor,
-    pub frames: Vec<u8>,
+    pub frames: PageFrames,
     pub page: Result<Option<Page>, AllocError>,
 }
 
@@ -29,7 +29,6 @@ impl<K: Keeper> Look<Session<K>> for Asked {
 
     fn look(&mut self, session: &Session<K>) {
         let Cursor { epoch, at } = self.cursor;
-        self.frames.clear();
         self.page = session.put_page(self.conn, epoch, at, &mut self.frames);
     }
 }

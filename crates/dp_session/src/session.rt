@@ -13,7 +13,7 @@ ghost use Rattle.dp_session.specs.Puts.{IsPut};
 use dp_epochs::{Answer, Event, Journal, Query, Reply, Shut};
 use dp_keeper::{KeepError, Keeper};
 use dp_machine::Machine;
-use dp_tables::{Page, Ready, Tables};
+use dp_tables::{Page, PageFrames, Ready, Tables};
 use std::alloc::{AllocError, Global};
 use std::marker::Model;
 
@@ -133,26 +133,25 @@ impl<K: Keeper> Session<K> {
         (keeper, Journal::from_vec(journal), Shut::from_vec(shut))
     }
 
-    /// Puts what a connection is to get at the end of the bytes, as frames, from a cursor on: a
-    /// page of some length. `None` means that nothing more is to come.
+    /// Puts what a connection is to get into a page, as frames, from a cursor on: a page of some
+    /// length. `None` means that nothing more is to come.
     ///
     /// # Errors
     ///
-    /// The bytes are as they were.
+    /// No frame is in the page.
     pub fn put_page(
         &self,
         conn: u32,
         epoch: u32,
         at: u32,
-        out: &mut Vec<u8>,
+        page: &mut PageFrames,
     ) -> Result<Option<Page>, AllocError>
-        ensures page { IfOk result (λ page. IsPage
-            (λ most. answered self.now (Pull conn epoch at most)) page out.old.items
-            out.new.items) }
-        ensures bounds { IfOk result (λ page. IsBounded page out.old.items out.new.items) }
-        ensures err { OnErr result (out.new.items ≡ out.old.items) }
+        ensures page { IfOk result (λ found. IsPage
+            (λ most. answered self.now (Pull conn epoch at most)) found page.new) }
+        ensures bounds { IfOk result (λ found. IsBounded found page.new) }
+        ensures err { OnErr result (page.new ≡ []) }
     {
-        self.tables.put_page(conn, epoch, at, out)
+        self.tables.put_page(conn, epoch, at, page)
     }
 
     /// Refuses an event with this answer, if there is memory.

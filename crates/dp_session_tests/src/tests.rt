@@ -9,7 +9,7 @@ use dp_machine::Machine;
 use dp_messages::{Msg, put_entry};
 use dp_msg_draw::Draw;
 use dp_msg_meta::{Control, Ids, Meta};
-use dp_session::Session;
+use dp_session::{PageFrames, Session};
 use std::alloc::Global;
 use std::process::Abort;
 
@@ -130,7 +130,7 @@ fn check_page<K: Keeper>(
     session: &Session<K>,
     (conn, epoch, at, _): Pull,
 ) {
-    let mut frames = Vec::new(alloc);
+    let mut frames = PageFrames::new(alloc);
     let page = session
         .put_page(conn, epoch, at, &mut frames)
         .expect(rt, "memory");

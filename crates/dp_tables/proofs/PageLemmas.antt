@@ -52,20 +52,20 @@ length-of-prefix written at count within =
 
 -- frames that were put are a page
 pub made-put : {E : Type 0} (r : Result ℕ E) (frames : HistoryFrames) (live : List Entry)
-    (end at most : ℕ) (old new : List ℕ) → at + most ≤ length live → at + most ≤ end
+    (end at most : ℕ) (new : List ℕ) → at + most ≤ length live → at + most ≤ end
     → AreMadeOf frames live
     → IfOk r (λ count. 0 < count) → IfOk r (λ count. count ≤ most)
     → IfOk r (λ count. (history : List Entry) → AreMadeOf frames history
-    → new ≡ old ++ frames_of (take count (drop at history)))
+    → new ≡ frames_of (take count (drop at history)))
     → IfOk r (λ count. (m : ℕ) × (count ≡ length (page at m (take end live)))
-    × (new ≡ old ++ frames_of (page at m (take end live))))
-made-put (Ok count) frames live end at most old new within before are some few put =
+    × (new ≡ frames_of (page at m (take end live))))
+made-put (Ok count) frames live end at most new within before are some few put =
     let inside : at + count ≤ length live = omega (arith, few, within) in
     let same =
     page-of-prefix live [] live end at count (sym (append-nil live)) inside
     (omega (arith, few, before)) some in (
       count,
       length-of-prefix live at count inside ∙ ap length same,
-      put live are ∙ ap (λ xs. old ++ frames_of xs) same,
+      put live are ∙ ap frames_of same,
     )
-made-put (Err e) frames live end at most old new within before are some few put = put
+made-put (Err e) frames live end at most new within before are some few put = put

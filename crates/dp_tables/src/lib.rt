@@ -11,6 +11,7 @@ mod replay;
 mod resets;
 mod tables;
 
+pub use dp_history::PageFrames;
 pub use pages::Page;
 pub use ready::Ready;
 pub use tables::Tables;

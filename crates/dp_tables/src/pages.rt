@@ -27,7 +27,7 @@ ghost use Rattle.std.specs.List.{list_any};
 ghost use Rattle.std.specs.Option.{option_map};
 ghost use Rattle.dp_acl.specs.Opening.{command_entry};
 ghost use Rattle.dp_epochs.specs.State.{connection_of, entry_of};
-ghost use Rattle.dp_epochs.specs.Pull.{page, pulled_from, pulled_by_left, pulled_where};
+ghost use Rattle.dp_epochs.specs.Pull.{page as due_page, pulled_from, pulled_by_left, pulled_where};
 ghost use Rattle.dp_tables.specs.SessionLog.{state_in};
 ghost use Rattle.dp_messages.specs.declared.message.Entry.{Entry as Piece};
 ghost use Rattle.dp_messages.specs.Messages.{entry_bytes};
@@ -38,7 +38,7 @@ ghost use Rattle.dp_history.specs.Items.{entry_in, IsIn, IsSay, join_of, message
 use crate::tables::Tables;
 use dp_commit::is_flagged;
 use dp_epochs::{Answer, Ending, Entries, Event, Place};
-use dp_history::{copies, put_item};
+use dp_history::{PageFrames, copies, put_item};
 use dp_lists::{prefix_of, rest_of};
 use dp_messages::{Entry, Msg, put_entry};
 use dp_msg_meta::Meta;
@@ -76,7 +76,7 @@ impl Tables {
     /// many.
     fn page(&self, end: usize, at: u32, most: u32) -> Result<Entries, AllocError>
         ensures { IfOk result (λ copies. copies
-            ≡ page at most (take end (state_in self.now).live)) }
+            ≡ due_page at most (take end (state_in self.now).live)) }
     {
         let history = prefix_of(&self.live, end);
         let most = 1u32.max(most) as usize;
@@ -149,71 +149,75 @@ impl Tables {
         }
     }
 
-    /// Puts the frame of an entry of the live history, if it stands before a place. It answers how
-    /// many were put.
-    fn put_one(&self, end: usize, at: usize, out: &mut Vec<u8>) -> Result<usize, AllocError>
-        ensures put { IfOk result (λ count. (count ≡ length (page at 1
+    /// Puts the frame of an entry of the live history into a page, if it stands before a place. It
+    /// answers how many were put.
+    fn put_one(&self, end: usize, at: usize, page: &mut PageFrames) -> Result<usize, AllocError>
+        ensures put { IfOk result (λ count. (count ≡ length (due_page at 1
             (take end (state_in self.now).live)))
-            × (out.new.items ≡ out.old.items ++ frames_of (page at 1
-            (take end (state_in self.now).live)))) }
+            × (page.new ≡ frames_of (due_page at 1 (take end (state_in self.now).live)))) }
         ensures few { IfOk result (λ count. count ≤ page_most) }
-        ensures short { IfOk result (λ count. IsShort count out.old.items out.new.items) }
-        ensures err { OnErr result (out.new.items ≡ out.old.items) }
+        ensures short { IfOk result (λ count. IsShort count page.new) }
+        ensures err { OnErr result (page.new ≡ []) }
     {
         match prefix_of(&self.live, end).get(at) {
             Some(item) => {
-                put_item(self.allocator(), &self.journal, item, out)?;
+                put_item(self.allocator(), &self.journal, item, page)?;
                 Ok(1)
             }
-            None => Ok(0),
+            None => {
+                page.clear();
+                Ok(0)
+            }
         }
     }
 
-    /// Puts the frames of entries of the live history, those from a place on up to another. It
-    /// answers how many were put.
-    fn put_due(&self, end: usize, at: usize, out: &mut Vec<u8>) -> Result<usize, AllocError>
-        ensures put { IfOk result (λ count. (most : ℕ) × (count ≡ length (page at most
+    /// Puts the frames of entries of the live history into a page, those from a place on up to
+    /// another. It answers how many were put.
+    fn put_due(&self, end: usize, at: usize, page: &mut PageFrames) -> Result<usize, AllocError>
+        ensures put { IfOk result (λ count. (most : ℕ) × (count ≡ length (due_page at most
             (take end (state_in self.now).live)))
-            × (out.new.items ≡ out.old.items ++ frames_of (page at most
-            (take end (state_in self.now).live)))) }
+            × (page.new ≡ frames_of (due_page at most (take end (state_in self.now).live)))) }
         ensures few { IfOk result (λ count. count ≤ page_most) }
-        ensures short { IfOk result (λ count. IsShort count out.old.items out.new.items) }
-        ensures err { OnErr result (out.new.items ≡ out.old.items) }
+        ensures short { IfOk result (λ count. IsShort count page.new) }
+        ensures err { OnErr result (page.new ≡ []) }
     {
         let made = self.frames.made_at(at).min(end.saturating_sub(at));
         if made > 0 {
-            self.frames.put(at, PAGE.min(made), out)
+            self.frames.put(at, PAGE.min(made), page)
         } else {
-            self.put_one(end, at, out)
+            self.put_one(end, at, page)
         }
     }
 
-    /// Puts what a connection is to get at the end of the bytes, as frames, from a cursor on: a
-    /// page of some length. `None` means that nothing more is to come. It makes no frame that was
-    /// made before.
+    /// Puts what a connection is to get into a page, as frames, from a cursor on: a page of some
+    /// length. `None` means that nothing more is to come. It makes no frame that was made before,
+    /// and shares those that stand in a full segment.
     ///
     /// # Errors
     ///
-    /// The bytes are as they were.
+    /// No frame is in the page.
     pub fn put_page(
         &self,
         conn: u32,
         epoch: u32,
         at: u32,
-        out: &mut Vec<u8>,
+        page: &mut PageFrames,
     ) -> Result<Option<Page>, AllocError>
-        ensures page { IfOk result (λ page. IsPage
+        ensures page { IfOk result (λ found. IsPage
             (λ most. pulled_where (state_in self.now) self.now.quiet conn epoch at most
-            (connection_of (state_in self.now) conn)) page out.old.items out.new.items) }
-        ensures bounds { IfOk result (λ page. IsBounded page out.old.items out.new.items) }
-        ensures err { OnErr result (out.new.items ≡ out.old.items) }
+            (connection_of (state_in self.now) conn)) found page.new) }
+        ensures bounds { IfOk result (λ found. IsBounded found page.new) }
+        ensures err { OnErr result (page.new ≡ []) }
     {
         match self.due(conn, epoch, at) {
             Some(Due { epoch, at, end }) => {
-                let count = self.put_due(end, at as usize, out)?;
+                let count = self.put_due(end, at as usize, page)?;
                 Ok(Some(Page { epoch, at, count }))
             }
-            None => Ok(None),
+            None => {
+                page.clear();
+                Ok(None)
+            }
         }
     }
 

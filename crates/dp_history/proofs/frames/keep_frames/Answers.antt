@@ -1,61 +1,70 @@
-use Rattle.std.proofs.Common.{◌<◌, ◌+◌, ◌-◌, length, take, drop, sym, ap, subst, arith}
-use Rattle.std.proofs.Common.{length-append}
-use Rattle.std.proofs.lemmas.List.{length-map}
-use Rattle.dp_history.specs.Items.{entry_in, IsIn}
-use Rattle.dp_history.specs.Made.{going_over}
-use Rattle.dp_history.specs.Moves.{AreMoved}
-use Rattle.dp_history.proofs.MadeLemmas.{entry-of-frame, next-left, going-more}
+use Rattle.std.proofs.Common.{◌≡◌, ◌++◌, length, map, drop, sym, ap, subst, ◌∙◌}
+use Rattle.std.proofs.Common.{append_assoc}
+use Rattle.std.proofs.lemmas.List.{drop-map}
+use Rattle.std.proofs.Math.Seq.{drop-append_seam}
+use Rattle.dp_history.specs.Frames.{AreFramesOf, AreSealedOf}
+use Rattle.dp_history.specs.Items.{entry_in}
+use Rattle.dp_history.specs.Made.{WereKept, going_over}
+use Rattle.dp_history.proofs.LogLemmas.{sealed-count}
+use Rattle.dp_history.proofs.KeptLemmas.{log-kept, log-begun}
 use Rattle.dp_history.proofs.frames.keep_frames.Goals as goal
 
-pub is_kept-requires : goal.is_kept-requires
-is_kept-requires c =
-    let are = c.requires.made in
-    let items = c.args.items.now in
-    subst (IsIn c.args.journal.now) (sym c.index-items-at.is)
-    (c.requires.said c.loop-at.at c.index-items-at.result (omega (
-      arith,
-      c.loop-at-test.true,
-      c.len-at-end.ensures.entries are.written are.of,
-      ap length are.all,
-      length-append are.written are.rest,
-      length-map items (entry_in c.args.journal.now),
-    )))
-
-pub pass-moved-requires : goal.pass-moved-requires
-pass-moved-requires c =
-    let are = c.requires.made in
-    let at = c.loop-at.at in
-    let item = c.index-items-at.result in
-    let journal = c.args.journal.now in
-    let within : at < length are.written = omega
-    (arith, c.loop-at-test.true, c.len-at-end.ensures.entries are.written are.of) in (
-      going_over (take (at - c.min-first.result) (drop c.min-first.result are.written)),
-      entry_in journal item,
-      drop (at + 1) are.written,
-      next-left c.loop-at.frames at c.loop-at.moved
-          (going_over (take (at - c.min-first.result) (drop c.min-first.result are.written)))
-          are.written (entry_in journal item) within
-          (entry-of-frame journal c.args.items.now are.written are.rest at item are.all within
-          (sym c.index-items-at.is))
-          (c.loop-at.invariant are),
+pub keep_sealed-requires-clause-made : goal.keep_sealed-requires-clause-made
+keep_sealed-requires-clause-made c =
+    let are = c.requires.made in (
+      are.of.before,
+      are.of.rest ++ are.rest,
+      subst (λ s. AreSealedOf s are.of.before) (sym c.sealed.ensures) are.of.sealed,
+      are.all ∙ ap (λ xs. xs ++ are.rest) are.of.all
+          ∙ append_assoc are.of.before are.of.rest are.rest,
     )
 
-pub loop-at-preserved : goal.loop-at-preserved
-loop-at-preserved c = λ are.
-    let at = c.loop-at.at in
-    let first = c.min-first.result in
-    let item = c.index-items-at.result in
-    let journal = c.args.journal.now in
-    let entry = entry_in journal item in
-    let left = drop (at + 1) are.written in
-    let kept = going_over (take (at - first) (drop first are.written)) in
-    let within : at < length are.written = omega
-    (arith, c.loop-at-test.true, c.len-at-end.ensures.entries are.written are.of) in
-    let is = entry-of-frame journal c.args.items.now are.written are.rest at item are.all within
-    (sym c.index-items-at.is) in
-    subst (λ xs. AreMoved c.pass-moved.new.self (at + 1) c.pass-moved.result xs left)
-    (going-more are.written first at entry c.is_kept.result c.loop-at.auto.at within is
-    (sym c.is_kept.ensures))
-    (c.pass-moved.ensures kept entry left
-    (next-left c.loop-at.frames at c.loop-at.moved kept are.written entry within is
-    (c.loop-at.invariant are)))
+pub returns-in_err-keep_sealed : goal.returns-in_err-keep_sealed
+returns-in_err-keep_sealed c = λ are.
+    log-begun c.from_residual.result c.keep_sealed.result c.keep_sealed.new.kept c.args.skip
+    are.written are.of.before are.of.rest are.of.all c.from_residual.ensures.0
+    (c.keep_sealed.ensures are.of.before (are.of.rest ++ are.rest)
+    (subst (λ s. AreSealedOf s are.of.before) (sym c.sealed.ensures) are.of.sealed)
+    (are.all ∙ ap (λ xs. xs ++ are.rest) are.of.all
+    ∙ append_assoc are.of.before are.of.rest are.rest))
+
+pub keep_segment-requires-clause-made : goal.keep_segment-requires-clause-made
+keep_segment-requires-clause-made c =
+    let are = c.requires.made in
+    let f = entry_in c.args.journal.now in
+    let long : c.before-before.result ≡ length are.of.before =
+    c.before-before.ensures ∙ sealed-count c.args.frames.now.sealed are.of.before are.of.sealed in
+    let first : map f c.args.items.now ≡ are.of.before ++ (are.of.rest ++ are.rest) =
+    are.all ∙ ap (λ xs. xs ++ are.rest) are.of.all
+    ∙ append_assoc are.of.before are.of.rest are.rest in (
+      are.of.rest,
+      are.rest,
+      subst (λ s. AreFramesOf s are.of.rest) (sym c.last.ensures) are.of.last,
+      ap (map f) c.rest_of-left.ensures ∙ sym (drop-map f c.before-before.result c.args.items.now)
+          ∙ ap (drop c.before-before.result) first
+          ∙ ap (λ n. drop n (are.of.before ++ (are.of.rest ++ are.rest))) long
+          ∙ drop-append_seam are.of.before (are.of.rest ++ are.rest),
+    )
+
+pub returns : goal.returns
+returns c = λ are.
+    let f = entry_in c.args.journal.now in
+    let before = c.before-before.result in
+    let long : before ≡ length are.of.before =
+    c.before-before.ensures ∙ sealed-count c.args.frames.now.sealed are.of.before are.of.sealed in
+    let first : map f c.args.items.now ≡ are.of.before ++ (are.of.rest ++ are.rest) =
+    are.all ∙ ap (λ xs. xs ++ are.rest) are.of.all
+    ∙ append_assoc are.of.before are.of.rest are.rest in
+    log-kept c.keep_segment.result c.keep_segment.new.kept c.args.skip before are.written
+    are.of.before are.of.rest are.of.all long
+    (subst (λ n. WereKept c.keep_segment.result c.keep_segment.new.kept
+    (going_over (drop c.args.skip are.of.before) ++ going_over (drop n are.of.rest)))
+    c.saturating_sub.ensures
+    (c.keep_segment.ensures (going_over (drop c.args.skip are.of.before)) are.of.rest are.rest
+    (c.in_ok-keep_sealed.ensures are.of.before (are.of.rest ++ are.rest)
+    (subst (λ s. AreSealedOf s are.of.before) (sym c.sealed.ensures) are.of.sealed) first)
+    (subst (λ s. AreFramesOf s are.of.rest) (sym c.last.ensures) are.of.last)
+    (ap (map f) c.rest_of-left.ensures ∙ sym (drop-map f before c.args.items.now)
+    ∙ ap (drop before) first
+    ∙ ap (λ n. drop n (are.of.before ++ (are.of.rest ++ are.rest))) long
+    ∙ drop-append_seam are.of.before (are.of.rest ++ are.rest))))

@@ -22,14 +22,14 @@ returns-in-Ok-Some-clause-sends g c held h =
     c.feeds_go_on.ensures grows h in
     let page = rw c.in-Ok-Some.field-0-is at c.in-Ok-Some.ensures.page in
     page-goes c.write_page.result past conn held taken (g.S.Sink.held c.write_page.new.tx) cursor
-    c.write_page.new.cursor c.in-Ok-Some.page c.ask_page.new.asked.frames.items
+    c.write_page.new.cursor c.in-Ok-Some.page c.ask_page.new.asked.frames
     (λ earlier last most epoch at list.
     c.pulls_go_on.ensures past conn earlier last most epoch at list)
     now
-    (subst (λ n. PageAt past n cursor (Some c.in-Ok-Some.page) c.ask_page.new.asked.frames.items)
+    (subst (λ n. PageAt past n cursor (Some c.in-Ok-Some.page) c.ask_page.new.asked.frames)
     c.requires.conn page)
     (λ list count frames. c.write_page.ensures.writes list count
-    (c.deref.ensures.value ∙ frames))
+    (c.as_slice.ensures ∙ frames))
 
 pub returns-in-Ok-None-clause-sends : goal.returns-in-Ok-None-clause-sends
 returns-in-Ok-None-clause-sends g c held h =
@@ -52,13 +52,13 @@ returns-in-Ok-None-clause-sends g c held h =
     opened-later c.args.seat.now.view.seen c.ask_page.new.seat.view.seen conn
     c.args.greeting.now.user c.args.greeting.now.epoch c.args.greeting.now.at
     c.ask_page.ensures.seen.longer c.requires.opened in
-    page-gone past conn held taken cursor c.ask_page.new.asked.frames.items
+    page-gone past conn held taken cursor c.ask_page.new.asked.frames
     (λ most earlier last feed gone.
     c.feeds_end.ensures start c.ask_page.new.seat.view.seen conn c.args.greeting.now.user
     c.args.greeting.now.epoch c.args.greeting.now.at most earlier last c.requires.start
     legal opened feed gone)
     now
-    (subst (λ n. PageAt past n cursor None c.ask_page.new.asked.frames.items) c.requires.conn page)
+    (subst (λ n. PageAt past n cursor None c.ask_page.new.asked.frames) c.requires.conn page)
 
 pub returns-in-Err-clause-sends : goal.returns-in-Err-clause-sends
 returns-in-Err-clause-sends g c held h =

@@ -1,13 +1,13 @@
 use Rattle.std.proofs.Common.{◌≡◌, ◌-◌, length, map, drop, sym, ap, subst, ◌∙◌}
 use Rattle.std.proofs.lemmas.List.{drop-map}
-use Rattle.dp_history.specs.Frames.{AreFramesOf, AreWritten}
+use Rattle.dp_history.specs.Frames.{AreWritten}
 use Rattle.dp_history.specs.Items.{entry_in}
-use Rattle.dp_history.specs.Made.{going_over}
-use Rattle.dp_history.proofs.MadeLemmas.{made-of-kept}
+use Rattle.dp_history.specs.Made.{WereKept, going_over}
+use Rattle.dp_history.proofs.KeptLemmas.{made-of-kept}
 use Rattle.dp_history.proofs.frames.HistoryFrames.keep.Goals as goal
 
-pub keep_frames-requires-clause-made : goal.keep_frames-requires-clause-made
-keep_frames-requires-clause-made c =
+pub keep_frames-outcome-requires-clause-made : goal.keep_frames-outcome-requires-clause-made
+keep_frames-outcome-requires-clause-made c =
     let f = entry_in c.args.journal.now in
     subst (AreWritten c.args.self.now.rest)
     (drop-map f c.args.self.now.base c.args.live.now ∙ ap (map f) (sym c.rest_of-items.ensures))
@@ -22,9 +22,10 @@ returns-clause-kept c = λ are.
     ∙ ap (map f) (sym c.rest_of-items.ensures) in
     record {
       none = c.new.ensures;
-      kept = subst (λ n. AreFramesOf c.keep_frames.new.frames (going_over (drop n rest.written)))
+      kept = subst (λ n. WereKept c.keep_frames-outcome.result c.keep_frames-outcome.new.kept
+          (going_over (drop n rest.written)))
           c.saturating_sub-skip.ensures
-          (c.keep_frames.ensures (record {
+          (c.keep_frames-outcome.ensures (record {
             written = rest.written;
             rest = rest.rest;
             of = rest.of;
@@ -44,7 +45,8 @@ returns-clause-made c = λ before long.
     let left : map f c.rest_of.result.now ≡ drop (c.args.at - base) (drop base (map f live)) =
     ap (map f) c.rest_of.ensures ∙ sym (drop-map f skip items) ∙ ap (drop skip) (sym all)
     ∙ ap (λ n. drop n (drop base (map f live))) c.saturating_sub-skip.ensures in
-    made-of-kept c.args.self.now _ (map f live) before c.args.at c.count_kept-count.result
-    c.args.opens_with c.requires.made (returns-clause-kept c c.requires.made)
+    made-of-kept c.keep_frames-outcome.result c.args.self.now _ (map f live) before c.args.at
+    c.count_kept-count.result c.args.opens_with c.requires.made
+    (returns-clause-kept c c.requires.made)
     (c.count_kept-count.ensures ∙ ap (λ xs. length (going_over xs)) left) long
     c.saturating_sub-self.ensures

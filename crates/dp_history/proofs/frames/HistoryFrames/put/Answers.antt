@@ -1,5 +1,5 @@
 use Rattle.std.proofs.Common.{arith}
-use Rattle.dp_history.proofs.MadeLemmas.{ends-count, front-fits, rest-fits, put-front, put-rest}
+use Rattle.dp_history.proofs.MadeLemmas.{frames-count, front-fits, rest-fits, put-front, put-rest}
 use Rattle.dp_history.proofs.frames.HistoryFrames.put.Goals as goal
 
 pub put-requires-clause-are : goal.put-requires-clause-are
@@ -10,7 +10,7 @@ put-requires-clause-are c =
       are.of,
       omega (
         arith,
-        ends-count f.front are.written are.of,
+        frames-count f.front are.written are.of,
         front-fits f c.args.at c.args.most c.if-at-self.true c.requires.some c.requires.most,
       ),
     )
@@ -23,7 +23,7 @@ put-requires-else-at-self-clause-are c =
       are.of,
       omega (
         arith,
-        ends-count f.rest are.written are.of,
+        frames-count f.rest are.written are.of,
         rest-fits f c.args.at c.args.most c.if-at-self.false c.requires.some c.requires.most,
       ),
     )
@@ -31,14 +31,14 @@ put-requires-else-at-self-clause-are c =
 pub returns-then-at-self-clause-put : goal.returns-then-at-self-clause-put
 returns-then-at-self-clause-put c =
     let f = c.args.self.now in
-    put-front c.put.result f c.args.at c.args.most c.args.out.now.items c.put.new.out.items
+    put-front c.put.result f c.args.at c.args.most c.put.new.page
     (front-fits f c.args.at c.args.most c.if-at-self.true c.requires.some c.requires.most)
     c.put.ensures.most c.put.ensures.put
 
 pub returns-else-at-self-clause-put : goal.returns-else-at-self-clause-put
 returns-else-at-self-clause-put c =
     let f = c.args.self.now in
-    put-rest c.put-else-at-self.result f c.args.at c.args.most c.args.out.now.items
-    c.put-else-at-self.new.out.items c.if-at-self.false
+    put-rest c.put-else-at-self.result f c.args.at c.args.most
+    c.put-else-at-self.new.page c.if-at-self.false
     (rest-fits f c.args.at c.args.most c.if-at-self.false c.requires.some c.requires.most)
     c.put-else-at-self.ensures.most c.put-else-at-self.ensures.put

@@ -1,23 +1,8 @@
-use Rattle.std.proofs.Common.{length, ap, arith}
-use Rattle.dp_history.proofs.FrameLemmas.{length-ends}
+use Rattle.std.proofs.Common.{ap, ◌∙◌}
+use Rattle.dp_history.specs.Frames.{frame_count}
+use Rattle.dp_history.proofs.MadeLemmas.{frames-count}
 use Rattle.dp_history.proofs.log.FrameLog.len.Goals as goal
-
-pub returns-clause-ends : goal.returns-clause-ends
-returns-clause-ends c =
-    omega (
-      arith,
-      c.len.ensures,
-      c.self.inside.ends.ok.0,
-      ap (λ frames. length frames.ends) c.self.view_is,
-    )
 
 pub returns-clause-entries : goal.returns-clause-entries
 returns-clause-entries c = λ entries are.
-    omega (
-      arith,
-      c.len.ensures,
-      c.self.inside.ends.ok.0,
-      ap (λ frames. length frames.ends) c.self.view_is,
-      ap length are.ends,
-      length-ends 0 entries,
-    )
+    c.self.invariant ∙ ap frame_count c.self.view_is ∙ frames-count c.args.self.now entries are

@@ -1,89 +1,39 @@
-use Rattle.std.proofs.Common.{◌≡◌, ℕ, ◌+◌, ◌-◌, ◌<◌, ◌≤◌, List, ◌++◌, length, take, drop}
-use Rattle.std.proofs.Common.{get_or, ap, ◌∙◌, arith, inl, inr, ⊎_elim}
-use Rattle.std.proofs.lemmas.List.{length-take-le, length-take, length-drop, length-append}
-use Rattle.dp_messages.specs.declared.message.Entry.{Entry}
-use Rattle.dp_history.specs.Frames.{frames_of, ends_from}
-use Rattle.dp_history.proofs.FrameLemmas.{length-ends, frames-cut, ends-part}
+use Rattle.std.proofs.Common.{sym, ap, subst, ◌∙◌, arith, length-append, length}
+use Rattle.dp_history.specs.Frames.{AreSealedOf}
+use Rattle.dp_history.proofs.LogLemmas.{sealed-count, copied-put}
 use Rattle.dp_history.proofs.log.FrameLog.put.Goals as goal
 
--- the `most` places from one on
-few_ends : (at most : ℕ) (entries : List Entry) → at + most ≤ length entries
-    → length (take most (drop at (ends_from 0 entries))) ≡ most
-few_ends at most entries within =
-    length-take-le most (drop at (ends_from 0 entries))
-    (omega (arith, length-drop at (ends_from 0 entries), length-ends 0 entries, within))
-
--- a number after the one before it
-one_back : (n : ℕ) → 0 < n → n - 1 + 1 ≡ n
-one_back n some = omega (arith, some)
-
-pub count_within-count-requires : goal.count_within-count-requires
-count_within-count-requires c =
-    let are = c.requires.are in
-    let at = c.args.at in
-    let most = c.args.most in
-    omega (
-      arith,
-      ap length (c.prefix_of-ends.ensures
-          ∙ ap (take most) (c.rest_of.ensures
-          ∙ ap (drop at) (c.deref.ensures.value ∙ ap (λ frames. frames.ends) c.self.view_is
-          ∙ are.1.ends))),
-      few_ends at most are.0 are.2,
-      c.requires.some,
+pub share_of-requires-clause-are : goal.share_of-requires-clause-are
+share_of-requires-clause-are c =
+    let are = c.requires.are.1 in (
+      are.before,
+      subst (λ s. AreSealedOf s are.before)
+          (sym (c.deref.ensures.value ∙ ap (λ l. l.sealed) c.self.view_is)) are.sealed,
+      omega (
+        arith,
+        c.if-at-before.true,
+        c.before-before.ensures,
+        sealed-count c.args.self.now.sealed are.before are.sealed,
+      ),
     )
 
-pub returns-clause-put : goal.returns-clause-put
-returns-clause-put c = λ entries are.
-    let at = c.args.at in
-    let count = c.count_within-count.result in
-    c.in_ok-extend_from_slice.ensures.items
-    ∙ ap (λ xs. c.args.out.now.items ++ xs)
-    (c.prefix_of.ensures
-    ∙ ap (take c.saturating_sub-size.result) (c.rest_of-2.ensures
-    ∙ ap (drop c.start-start.result) (c.deref-2.ensures.value
-    ∙ ap (λ frames. frames.bytes) c.self.view_is ∙ are.bytes)
-    ∙ ap (λ n. drop n (frames_of entries)) (c.start-start.ensures entries are))
-    ∙ ap (λ n. take n (drop (length (frames_of (take at entries))) (frames_of entries)))
-    (omega (
-      arith,
-      c.saturating_sub-size.ensures,
-      c.start.ensures entries are,
-      c.start-start.ensures entries are,
-    ))
-    ∙ frames-cut at count entries)
+pub copy_of-requires-clause-are : goal.copy_of-requires-clause-are
+copy_of-requires-clause-are c =
+    let are = c.requires.are.1 in (
+      are.rest,
+      are.last,
+      omega (
+        arith,
+        c.if-at-before.false,
+        c.requires.are.2,
+        c.before-before.ensures,
+        sealed-count c.args.self.now.sealed are.before are.sealed,
+        ap length are.all,
+        length-append are.before are.rest,
+      ),
+    )
 
-pub returns-clause-short : goal.returns-clause-short
-returns-clause-short c =
-    let entries = c.requires.are.0 in
-    let are = c.requires.are.1 in
-    let at = c.args.at in
-    let most = c.args.most in
-    let count = c.count_within-count.result in
-    let bytes = c.prefix_of.result.now in
-    let ends : c.prefix_of-ends.result.now ≡ take most (drop at (ends_from 0 entries)) =
-    c.prefix_of-ends.ensures
-    ∙ ap (take most) (c.rest_of.ensures
-    ∙ ap (drop at) (c.deref.ensures.value ∙ ap (λ frames. frames.ends) c.self.view_is
-    ∙ are.ends)) in
-    ⊎_elim (λ one. inl one) (λ below. inr (omega (
-      arith,
-      below,
-      ap length c.in_ok-extend_from_slice.ensures.items,
-      length-append c.args.out.now.items bytes,
-      ap length c.prefix_of.ensures,
-      length-take c.saturating_sub-size.result c.rest_of-2.result.now,
-      c.saturating_sub-size.ensures,
-      c.saturating_add.ensures,
-      c.start.ensures entries are,
-      ap (λ xs. get_or xs (count - 1) 0) ends,
-      ap (λ n. length (frames_of (take (at + n) entries)))
-          (one_back count c.count_within-count.ensures.some),
-      ends-part at most (count - 1) entries c.requires.are.2
-          (omega (
-            arith,
-            c.count_within-count.ensures.some,
-            c.count_within-count.ensures.within,
-            ap length ends,
-            few_ends at most entries c.requires.are.2,
-          )),
-    ))) c.count_within-count.ensures.limit
+pub returns-else-at-before-clause-put : goal.returns-else-at-before-clause-put
+returns-else-at-before-clause-put c =
+    copied-put c.copy_of.result c.args.self.now c.args.at c.before-before.result
+    c.copy_of.new.page c.before-before.ensures c.if-at-before.false c.copy_of.ensures.put

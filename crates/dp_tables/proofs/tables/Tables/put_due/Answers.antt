@@ -11,8 +11,7 @@ returns-then-made-gt0-clause-put c =
     let live = (state_in c.args.self.now).live in
     let are = subst (λ l. AreMadeOf t.frames (state_in l).live) c.self.view_is
     c.self.invariant.frames in
-    made-put c.put.result t.frames live c.args.end c.args.at c.min.result c.args.out.now.items
-    c.put.new.out.items
+    made-put c.put.result t.frames live c.args.end c.args.at c.min.result c.put.new.page
     (omega (
       arith,
       made-within t.frames live c.args.at are

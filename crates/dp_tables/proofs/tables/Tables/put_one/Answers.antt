@@ -1,4 +1,4 @@
-use Rattle.std.proofs.Common.{◌++◌, take, length, sym, ap, ◌∙◌, append-nil}
+use Rattle.std.proofs.Common.{take, length, sym, ap, ◌∙◌, append-nil}
 use Rattle.dp_messages.specs.Messages.{entry_bytes}
 use Rattle.dp_history.specs.Frames.{frames_of}
 use Rattle.dp_history.specs.Items.{entry_in}
@@ -20,7 +20,6 @@ returns-in_ok-put_item-in-Some-clause-put c =
     (rw (c.prefix_of.ensures, c.deref.ensures.value) at c.in-Some.ensures.lookup.1)) in (
       sym (ap length one),
       rw c.deref-in-Some.ensures.value at c.in_ok-put_item-in-Some.ensures.ok
-          ∙ ap (λ xs. c.args.out.now.items ++ xs)
-          (sym (append-nil (entry_bytes (entry_in t.journal.items c.in-Some.item.now)))
+          ∙ (sym (append-nil (entry_bytes (entry_in t.journal.items c.in-Some.item.now)))
           ∙ sym (ap frames_of one)),
     )

@@ -2,7 +2,7 @@ use Rattle.std.proofs.Common.{◌++◌, ◌∷◌, [], length, ap, ◌∙◌, ar
 use Rattle.dp_messages.specs.declared.message.Entry.{Entry}
 use Rattle.dp_messages.specs.Messages.{entry_bytes}
 use Rattle.dp_history.proofs.FrameLemmas.{frames-appended}
-use Rattle.dp_history.proofs.log.FrameLog.append.Goals as goal
+use Rattle.dp_history.proofs.segment.Segment.append.Goals as goal
 
 pub returns-clause-ok : goal.returns-clause-ok
 returns-clause-ok c = λ entries are.

@@ -2,7 +2,7 @@ use Rattle.std.proofs.Common.{length, take, get_or, ap, ◌∙◌, ◌+◌, ◌�
 use Rattle.std.proofs.lemmas.Grind.{get_or_default_zero}
 use Rattle.dp_history.specs.Frames.{frames_of}
 use Rattle.dp_history.proofs.FrameLemmas.{length-ends, ends-at}
-use Rattle.dp_history.proofs.log.FrameLog.start.Goals as goal
+use Rattle.dp_history.proofs.segment.Segment.start.Goals as goal
 
 pub index-requires : goal.index-requires
 index-requires c =

@@ -1,5 +1,5 @@
 use Rattle.std.proofs.Common.{◌≡◌, ◌-◌, ◌≤◌, ◌<◌, ◌⊎◌, get_or, length}
-use Rattle.dp_history.proofs.log.count_within.Given as goal
+use Rattle.dp_history.proofs.segment.count_within.Given as goal
 
 -- as many frames as were counted, or one, end up to the limit
 abbrev pub invariant-loop-count : goal.invariant-loop-count
