@@ -31,9 +31,9 @@ fn span_of(tile: u32, from: u32, len: u32) -> Span
     }
 }
 
-/// Reads both ends of rows of a tile, and their middle: 16 pixels lie in up to three lines of
-/// memory. The answer keeps the reads: whether an alpha is above one, which none is.
-fn read_rows(across: Span, down: Span, pixels: &[Pixel]) -> bool
+/// Reads both ends of rows of a tile. The answer keeps the reads: whether an alpha is above one,
+/// which none is.
+fn read_ends(across: Span, down: Span, pixels: &[Pixel]) -> bool
     requires count { length pixels.now ≡ 4096 }
     requires order { across.start < across.end }
     requires across { across.end ≤ 64 }
@@ -42,11 +42,8 @@ fn read_rows(across: Span, down: Span, pixels: &[Pixel]) -> bool
 {
     let mut above = false;
     for y in down.start..down.end {
-        let row = y * SIDE;
-        let (first, last) = (row + across.start, row + across.end - 1);
-        let middle = row + (across.start + across.end) / 2;
+        let (first, last) = (y * SIDE + across.start, y * SIDE + across.end - 1);
         above = above | (pixels[first].a() > ONE) | (pixels[last].a() > ONE);
-        above = above | (pixels[middle].a() > ONE);
     }
     above
 }
@@ -84,7 +81,7 @@ impl Fill {
         let across = span_of(col, self.x, self.w);
         let down = span_of(row, self.y, self.h);
         if across.start < across.end && across.end - across.start <= NARROW {
-            read_rows(across, down, pixels)
+            read_ends(across, down, pixels)
         } else {
             false
         }

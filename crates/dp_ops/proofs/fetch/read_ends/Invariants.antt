@@ -1,5 +1,5 @@
 use Rattle.std.proofs.Common.{◌≡◌, false}
-use Rattle.dp_ops.proofs.fetch.read_rows.Given as goal
+use Rattle.dp_ops.proofs.fetch.read_ends.Given as goal
 
 -- no alpha is above one
 abbrev pub invariant-loop-y : goal.invariant-loop-y
