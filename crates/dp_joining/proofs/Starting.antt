@@ -18,12 +18,11 @@ use Rattle.dp_script.specs.Leaves.{AreFirstOf}
 use Rattle.dp_wire.specs.Links.{HandsOut, Links, WhereKnown as WhereLinks}
 use Rattle.dp_joining.specs.Runs.{Returns}
 use Rattle.dp_joining.specs.declared.stops.JoinStop.{JoinStop}
-use Rattle.dp_joining.specs.declared.stops.JoinStop.TheVariants.{WriteFault, LinkFault, Memory}
 use Rattle.dp_joining.specs.declared.stops.JoinStop.TheVariants.{NoEntry}
 use Rattle.dp_joining.specs.declared.stops.LinkCause.{LinkCause}
 use Rattle.dp_joining.specs.Greetings.{GreetingFails, Welcomes}
 use Rattle.dp_joining.specs.Joining.{Progress, came_to, caller, chat_limit, hello_bytes}
-use Rattle.dp_joining.specs.Leaves.{FaultMatchesJoin, Counts, IsWelcome, JoinLeaves}
+use Rattle.dp_joining.specs.Leaves.{IsWelcome, JoinLeaves}
 use Rattle.dp_joining.specs.Leaves.{ReadsNoFurther, Traffic, WaitsUnread, WhereKnown, WritesAll}
 use Rattle.dp_joining.specs.Leaves.{WritesPart}
 use Rattle.dp_joining.specs.Outcomes.{IsJoinStep, BeginsWith, link_end}
@@ -32,7 +31,7 @@ use Rattle.dp_script.specs.Limits.{lines_limit}
 use Rattle.dp_joining.specs.Steps.{DrawsFew, Linked, Seen, Shows, Source}
 use Rattle.dp_joining.specs.Steps.{seen as seen_at}
 use Rattle.dp_joining.specs.Stops.{end_of}
-use Rattle.dp_joining.proofs.Leaving.{Writes, link_fault, link_leaves}
+use Rattle.dp_joining.proofs.Leaving.{Writes, link_leaves}
 use Rattle.dp_joining.proofs.Moving.{drew_none, grows_not}
 use Rattle.dp_joining.proofs.Reading.{given_begins}
 
@@ -169,22 +168,6 @@ module _ (name : List ℕ) (t : Traffic) (source source_now sink sink_now : ℕ)
       link_leaves name t why (hello_all why fails same still)
   failed_leaves other fails same still =
       hello_part other fails same still (λ bytes shows. shows) fails.wrote
-
-  module _ (input output : ℕ) where
-    abbrev counts : ℕ → ℕ → Counts
-    counts source sink =
-        record { input = input; output = output; source = source; sink = sink }
-
-    pub failed_fault : (stop : JoinStop)
-        → GreetingFails name t.link t.sent_old t.sent_now source source_now sink sink_now stop
-        → FaultMatchesJoin (counts source sink) (counts source_now sink_now) (end_of stop)
-    failed_fault WriteFault fails = absurd fails.fault
-    failed_fault LinkFault fails = (refl, refl, fails.fault.2)
-    failed_fault Memory fails =
-        (refl, record { output = refl; source = fails.fault.0; sink = fails.fault.1 })
-    failed_fault (NoEntry why) fails =
-        link_fault (counts source sink) (counts source_now sink_now) why refl
-        (record { output = refl; source = fails.fault.0; sink = fails.fault.1 })
 
 -- ---- what was read of the script
 

@@ -112,11 +112,6 @@ pub open-none : (cs : List Connection) (low : ℕ) → next_open cs low ≡ None
 open-none cs low found =
     none-of (λ k. is_some (open_in cs k)) (low + 1) (length cs - low) found
 
-some-open : (found : Option Connection) → is_some found ≡ true
-    → (c : Connection) × (found ≡ Some c)
-some-open None h = cc
-some-open (Some c) h = (c, refl)
-
 -- if one connection has become another, those above it that are open stay
 set-above : (cs : List Connection) (conn : ℕ) (d : Connection) → 0 < conn
     → open_above conn (slice_set cs (conn - 1) d) ≡ open_above conn cs
