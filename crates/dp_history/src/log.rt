@@ -8,7 +8,7 @@ ghost use Rattle.dp_history.specs.Frames.{AreFramesOf, AreSealedOf, AreLogOf, Is
 ghost use Rattle.dp_history.specs.Frames.{frame_count, frames_of, sealed_count};
 
 use crate::page::PageFrames;
-use crate::segment::{Segment, Span};
+use crate::segment::{COPIED_BYTES, PAGE_BYTES, Segment, Span};
 use dp_messages::Msg;
 use std::alloc::{AllocError, AllocFailed, Global};
 use std::marker::Model;
@@ -73,7 +73,7 @@ impl Sealed {
         ensures err { OnErr result (page.new ≡ []) }
     {
         let most = most.min(self.count - at);
-        let Span { start, size, count } = self.frames.span(at, most);
+        let Span { start, size, count } = self.frames.span(at, most, PAGE_BYTES);
         page.share(&self.frames, start, size)?;
         Ok(count)
     }
@@ -235,7 +235,7 @@ impl FrameLog {
         ensures short { IfOk result (λ count. IsShort count page.new) }
         ensures err { OnErr result (page.new ≡ []) }
     {
-        let Span { start, size, count } = self.last.span(at, most);
+        let Span { start, size, count } = self.last.span(at, most, COPIED_BYTES);
         page.copy(self.last.part(start, size))?;
         Ok(count)
     }

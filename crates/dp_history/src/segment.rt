@@ -1,10 +1,10 @@
 //! A segment of the frames of a history.
 
 ghost use Rattle.std.specs.Prelude.{◌≡◌, ◌+◌, ◌<◌, ◌≤◌, ◌∷◌, ◌++◌, [], List, length, take, drop};
-ghost use Rattle.std.specs.Prelude.{◌-◌, ◌⊎◌, slice_index_or, OnOk, OnErr};
+ghost use Rattle.std.specs.Prelude.{◌-◌, ◌⊎◌, slice_index_or, IfOk, OnOk, OnErr};
 ghost use Rattle.dp_messages.specs.declared.message.Entry.{Entry as Piece};
 ghost use Rattle.dp_messages.specs.Messages.{entry_bytes};
-ghost use Rattle.dp_history.specs.Frames.{AreFramesOf, IsShort, frames_of};
+ghost use Rattle.dp_history.specs.Frames.{AreFramesOf, IsShort, frames_of, page_limit};
 
 use dp_lists::{prefix_of, rest_of};
 use dp_messages::{Msg, put_message};
@@ -12,14 +12,16 @@ use std::alloc::{AllocError, Global};
 use std::marker::Model;
 
 /// A page of more bytes has one entry.
-const PAGE_BYTES: usize = 1 << 18;
+pub(crate) const PAGE_BYTES: usize = 1 << 18;
+/// A page of more bytes that are copied has one entry: each link keeps room for its own copies.
+pub(crate) const COPIED_BYTES: usize = 1 << 16;
 
 /// Frames of entries, one after another. They are seen as their bytes and the places where they
 /// end.
 #[derive(Drop)]
 pub(crate) struct Segment {
     bytes: Vec<u8>,
-    ends: Vec<usize>,
+    ends: Vec<u32>,
 }
 
 impl Model for Segment {
@@ -43,7 +45,7 @@ pub(crate) struct Span {
 }
 
 /// How many of the frames that end at these places end up to a limit, or one.
-fn count_within(ends: &[usize], limit: usize) -> usize
+fn count_within(ends: &[u32], limit: usize) -> usize
     requires { 0 < length ends.now }
     ensures some { 0 < result }
     ensures within { result ≤ length ends.now }
@@ -53,13 +55,34 @@ fn count_within(ends: &[usize], limit: usize) -> usize
     let mut end = ends.len();
     while count < end {
         let middle = count + (end - count) / 2;
-        if ends[middle] <= limit {
+        if ends[middle] as usize <= limit {
             count = middle + 1;
         } else {
             end = middle;
         }
     }
     count
+}
+
+/// Where the bytes end to which a frame was added at a place. If no number of a segment says it, the
+/// frame is taken away again.
+///
+/// # Errors
+///
+/// The bytes are those before the place.
+fn end_after(bytes: &mut Vec<u8>, before: usize) -> Result<u32, AllocError>
+    requires { before ≤ length bytes.old.items }
+    ensures end { IfOk result (λ end. end ≡ length bytes.old.items) }
+    ensures ok { OnOk result (bytes.new.items ≡ bytes.old.items) }
+    ensures err { OnErr result (bytes.new.items ≡ take before bytes.old.items) }
+{
+    match u32::try_from(bytes.len()) {
+        Ok(end) => Ok(end),
+        Err(_) => {
+            bytes.truncate(before);
+            Err(AllocError)
+        }
+    }
 }
 
 impl Segment {
@@ -118,8 +141,10 @@ impl Segment {
         ensures err { OnErr result (self.new ≡ self.old) }
     {
         self.ends.reserve(1)?;
+        let before = self.bytes.len();
         put_message(user, msg, &mut self.bytes)?;
-        self.ends.push_reserved(self.bytes.len());
+        let end = end_after(&mut self.bytes, before)?;
+        self.ends.push_reserved(end);
         Ok(())
     }
 
@@ -136,8 +161,10 @@ impl Segment {
         ensures err { OnErr result (self.new ≡ self.old) }
     {
         self.ends.reserve(1)?;
+        let before = self.bytes.len();
         self.bytes.extend_from_slice(frame)?;
-        self.ends.push_reserved(self.bytes.len());
+        let end = end_after(&mut self.bytes, before)?;
+        self.ends.push_reserved(end);
         Ok(())
     }
 
@@ -147,7 +174,11 @@ impl Segment {
         ensures { (entries : List Piece) → AreFramesOf self.now entries
             → result ≡ length (frames_of (take at entries)) }
     {
-        if at == 0 { 0 } else { self.ends[at - 1] }
+        if at == 0 {
+            0
+        } else {
+            self.ends[at - 1] as usize
+        }
     }
 
     /// The frame of the entry at a place.
@@ -157,16 +188,17 @@ impl Segment {
             → result.now ≡ frames_of (take 1 (drop at entries)) }
     {
         let start = self.start(at);
-        let end = self.ends[at];
+        let end = self.ends[at] as usize;
         self.part(start, end.saturating_sub(start))
     }
 
-    /// The frames from a place on, at most this many. They have no more than `PAGE_BYTES` bytes,
-    /// unless it is one.
-    pub(crate) fn span(&self, at: usize, most: usize) -> Span
+    /// The frames from a place on, at most this many. They have no more than `limit` bytes, unless it
+    /// is one.
+    pub(crate) fn span(&self, at: usize, most: usize, limit: usize) -> Span
         requires are { (entries : List Piece) × AreFramesOf self.now entries
             × (at + most ≤ length entries) }
         requires some { 0 < most }
+        requires limit { limit ≤ page_limit }
         ensures some { 0 < result.count }
         ensures most { result.count ≤ most }
         ensures are { (entries : List Piece) → AreFramesOf self.now entries
@@ -176,7 +208,7 @@ impl Segment {
     {
         let start = self.start(at);
         let ends = prefix_of(rest_of(&self.ends, at), most);
-        let count = count_within(ends, start.saturating_add(PAGE_BYTES));
+        let count = count_within(ends, start.saturating_add(limit));
         let size = self.start(at + count).saturating_sub(start);
         Span { start, size, count }
     }

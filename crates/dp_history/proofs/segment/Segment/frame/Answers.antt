@@ -4,8 +4,8 @@ use Rattle.dp_history.specs.Frames.{frames_of}
 use Rattle.dp_history.proofs.FrameLemmas.{frames-cut, ends-at, length-ends}
 use Rattle.dp_history.proofs.segment.Segment.frame.Goals as goal
 
-pub index-end-requires : goal.index-end-requires
-index-end-requires c =
+pub index-requires : goal.index-requires
+index-requires c =
     omega (
       arith,
       c.self.inside.ends.ok.0,
@@ -27,9 +27,9 @@ returns c = λ entries are.
       c.requires.2,
     )
     in
-    let end : c.index-end.result.now ≡ 0 + length (frames_of (take (at + 1) entries)) =
-    c.index-end.ensures
-    ∙ get_or_default_zero c.self.inside.ends.items at c.index-end.result.now
+    let end : c.index.result.now ≡ 0 + length (frames_of (take (at + 1) entries)) =
+    c.index.ensures
+    ∙ get_or_default_zero c.self.inside.ends.items at c.index.result.now
     (omega (
       arith,
       c.self.inside.ends.ok.0,

@@ -63,6 +63,7 @@ returns-clause-short c =
     ⊎_elim (λ one. inl one) (λ below. inr (omega (
       arith,
       below,
+      c.requires.limit,
       length-take c.saturating_sub-size.result
           (drop c.start-start.result c.args.self.now.bytes),
       c.saturating_sub-size.ensures,
