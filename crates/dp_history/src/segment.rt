@@ -64,8 +64,8 @@ fn count_within(ends: &[u32], limit: usize) -> usize
     count
 }
 
-/// Where the bytes end to which a frame was added at a place. If no number of a segment says it, the
-/// frame is taken away again.
+/// Where the bytes end, to which a frame was added at a place. If no number of a segment can say it,
+/// the frame is taken away again.
 ///
 /// # Errors
 ///
@@ -192,8 +192,8 @@ impl Segment {
         self.part(start, end.saturating_sub(start))
     }
 
-    /// The frames from a place on, at most this many. They have no more than `limit` bytes, unless it
-    /// is one.
+    /// The frames from a place on, at most this many. They have no more than `limit` bytes, unless
+    /// it is one.
     pub(crate) fn span(&self, at: usize, most: usize, limit: usize) -> Span
         requires are { (entries : List Piece) × AreFramesOf self.now entries
             × (at + most ≤ length entries) }
