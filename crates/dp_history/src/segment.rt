@@ -64,8 +64,8 @@ fn count_within(ends: &[u32], limit: usize) -> usize
     count
 }
 
-/// Where the bytes end, to which a frame was added at a place. If no number of a segment can say it,
-/// the frame is taken away again.
+/// Where the bytes end, to which a frame was added at a place. If no number of a segment can say
+/// it, the frame is taken away again.
 ///
 /// # Errors
 ///
