@@ -1,7 +1,11 @@
-//! The tests of halls and links, in a crate of their own: seats that act, look and wait on threads
-//! of their own, and one link over memory, from the Hello to the end.
+//! The tests of halls, crews and links, in a crate of their own: seats that act, look and wait on
+//! threads of their own, the workers of a machine that adds bytes, and one link over memory, from
+//! the Hello to the end.
 #![tactic(auto)]
 
+pub mod counter;
+#[cfg(test)]
+mod crews;
 #[cfg(test)]
 mod halls;
 #[cfg(test)]

@@ -1,0 +1,48 @@
+use Rattle.std.proofs.Common.{All, IfSome, List, ◌≡◌, ◌++◌, ◌∙◌, arith, drop, length, subst, sym}
+use Rattle.std.proofs.Common.{take, ℕ}
+use Rattle.std.proofs.lemmas.List.{take_at}
+use Rattle.dp_hall.specs.Calls.{IsOf}
+use Rattle.dp_crew.proofs.Making.{made-of, made-length, ran-of, ran-same}
+use Rattle.dp_crew.proofs.CrewLemmas.{most-small}
+use Rattle.dp_crew.proofs.crew.run_all.Goals as goal
+
+-- a list that was lent is this one when it is back
+given_back : {A : Type 0} (olds news : List A) (n : ℕ) → length news ≡ n
+    → take n (news ++ drop (length news) olds) ≡ news
+given_back olds news n same = take_at news (drop (length news) olds) n same
+
+pub run_jobs-requires-clause-of : goal.run_jobs-requires-clause-of
+run_jobs-requires-clause-of g c κs within =
+    subst (All (λ job. IfSome job.seat (IsOf c.args.crew.now.hall.now)))
+    (sym c.deref_mut.ensures.value) (made-of c.args.crew.now.hall.now c.args.seat.now.view
+    c.make_jobs.new.seat.view c.args.wires.now.items c.make_jobs.new.jobs.items
+    c.make_jobs.ensures.made)
+
+pub gather-flags-requires-clause-seats : goal.gather-flags-requires-clause-seats
+gather-flags-requires-clause-seats g c κs within =
+    subst (All (λ job. IfSome job.seat (IsOf c.args.crew.now.hall.now)))
+    (sym (given_back c.make_jobs.new.jobs.items c.run_jobs.new.jobs c.make_jobs.new.jobs.len
+    (c.run_jobs.auto.jobs ∙ c.deref_mut.ensures.len)))
+    (ran-of g.S.Service.rules _ c.args.crew.now.hall.now _ c.deref_mut.result.now
+    c.run_jobs.new.jobs c.run_jobs.ensures)
+
+pub gather-flags-requires-clause-room : goal.gather-flags-requires-clause-room
+gather-flags-requires-clause-room g c κs within =
+    let count = made-length c.args.crew.now.hall.now c.args.seat.now.view c.make_jobs.new.seat.view
+    c.args.wires.now.items c.make_jobs.new.jobs.items c.make_jobs.ensures.made in (
+      omega (arith, count, c.make_jobs.new.jobs.ok, c.args.wires.now.ok, c.make_jobs.ensures.room),
+      omega (arith, count, c.make_jobs.new.jobs.ok, c.args.wires.now.ok, c.requires.room),
+    )
+
+pub returns-clause-gathers : goal.returns-clause-gathers
+returns-clause-gathers g c =
+    let back = given_back c.make_jobs.new.jobs.items c.run_jobs.new.jobs c.make_jobs.new.jobs.len
+    (c.run_jobs.auto.jobs ∙ c.deref_mut.ensures.len) in
+    c.gather-flags.ensures.gathers c.args.seat.now.view c.args.wires.now.items
+    c.make_jobs.new.jobs.items _ c.requires.first
+    (most-small c.args.conns c.unwrap_or-most.result c.unwrap_or-most.type_inv
+    c.unwrap_or-most.ensures) c.make_jobs.ensures.made
+    (ran-same g.S.Service.rules _ c.args.crew.now.hall.now _ c.deref_mut.result.now
+    c.run_jobs.new.jobs c.make_jobs.new.jobs.items
+    (take c.make_jobs.new.jobs.len (c.run_jobs.new.jobs ++ drop (length c.run_jobs.new.jobs)
+    c.make_jobs.new.jobs.items)) c.deref_mut.ensures.value (sym back) c.run_jobs.ensures)
