@@ -120,7 +120,7 @@ module _ {W P E O M R T : Type 0} (rules : Rules P E O M R T) (see : Sight W R T
   idle_fits last memory failed up who wire = record {
     each = tt;
     numbers = refl;
-    links = known-none (see.links wire);
+    links = known-none P E O M (see.links wire);
     few = omega arith;
     all = inr (inl up);
     faults = inl refl;

@@ -201,42 +201,44 @@ module _ {W P E O M R T : Type 0} (rules : Rules P E O M R T) (may : M → E →
 abbrev pub seat_names : {W P E O M : Type 0} → List (JobValue W P E O M) → List (List ℕ)
 seat_names jobs = flat_map (λ job. option_to_list (seat_name job.seat)) jobs
 
--- What making jobs leaves of the seat from which the others are split. Those of these names are
--- out.
-record Leaves {E O M : Type 0} (v w : View E O M) (out : List (List ℕ)) : Type 0 where
-  pub name : w.name ≡ v.name
-  pub mine : w.mine ≡ v.mine
-  pub olds : w.olds ≡ v.olds
-  pub back : AllBackBut out w
+module _ {E O M : Type 0} where
+  -- What making jobs leaves of the seat from which the others are split. Those of these names are
+  -- out.
+  record Leaves (v w : View E O M) (out : List (List ℕ)) : Type 0 where
+    pub name : w.name ≡ v.name
+    pub mine : w.mine ≡ v.mine
+    pub olds : w.olds ≡ v.olds
+    pub back : AllBackBut out w
 
-same-leaves : {E O M : Type 0} (v u w : View E O M) (out : List (List ℕ)) → w ≡ u → Leaves v u out
-    → Leaves v w out
-same-leaves v u w out is h = subst (λ (x : View E O M). Leaves v x out) (sym is) h
+  same-leaves : (v u w : View E O M) (out : List (List ℕ)) → w ≡ u → Leaves v u out
+      → Leaves v w out
+  same-leaves v u w out is h = subst (λ (x : View E O M). Leaves v x out) (sym is) h
 
-split-leaves : {E O M : Type 0} (v u w given : View E O M) (out : List (List ℕ)) → SplitsInto u w given
-    → Leaves v u out → Leaves v w (given.name ∷ out)
-split-leaves v u w given out cut h = record {
-  name = ap (λ (x : View E O M). x.name) cut.stays_is ∙ h.name;
-  mine = ap (λ (x : View E O M). x.mine) cut.stays_is ∙ h.mine;
-  olds = ap (λ (x : View E O M). x.olds) cut.stays_is ∙ h.olds;
-  back = back-split u w given out h.back cut;
-}
+  split-leaves : (v u w given : View E O M) (out : List (List ℕ)) → SplitsInto u w given
+      → Leaves v u out → Leaves v w (given.name ∷ out)
+  split-leaves v u w given out cut h = record {
+    name = ap (λ (x : View E O M). x.name) cut.stays_is ∙ h.name;
+    mine = ap (λ (x : View E O M). x.mine) cut.stays_is ∙ h.mine;
+    olds = ap (λ (x : View E O M). x.olds) cut.stays_is ∙ h.olds;
+    back = back-split u w given out h.back cut;
+  }
 
-leaves : {W P E O M : Type 0} (hall : HallValue M) (v w : View E O M) (who : ℕ) (wires : List W)
-    (jobs : List (JobValue W P E O M)) → MadeJobs hall v w who wires jobs → AllBackBut [] v
-    → Leaves v w (seat_names jobs)
-leaves hall v w who [] [] h back =
-    same-leaves v v w [] h (record { name = refl; mine = refl; olds = refl; back = back })
-leaves hall v w who [] (job ∷ jobs) h back = absurd h
-leaves hall v w who (wire ∷ wires) [] h back = absurd h
-leaves hall v w who (wire ∷ wires) (job ∷ jobs) h back =
-    one_more job.seat h.2.seat (leaves hall v h.0 (who + 1) wires jobs h.1 back)
-  where
-    one_more : (seat : Option (SeatValue E O M)) → MadeSeat hall h.0 w seat job.worked
-        → Leaves v h.0 (seat_names jobs)
-        → Leaves v w (option_to_list (seat_name seat) ++ seat_names jobs)
-    one_more None m l = same-leaves v h.0 w (seat_names jobs) m.0 l
-    one_more (Some seat) m l = split-leaves v h.0 w seat.view (seat_names jobs) m.1 l
+module _ {W P E O M : Type 0} where
+  leaves : (hall : HallValue M) (v w : View E O M) (who : ℕ) (wires : List W)
+      (jobs : List (JobValue W P E O M)) → MadeJobs hall v w who wires jobs → AllBackBut [] v
+      → Leaves v w (seat_names jobs)
+  leaves hall v w who [] [] h back =
+      same-leaves v v w [] h (record { name = refl; mine = refl; olds = refl; back = back })
+  leaves hall v w who [] (job ∷ jobs) h back = absurd h
+  leaves hall v w who (wire ∷ wires) [] h back = absurd h
+  leaves hall v w who (wire ∷ wires) (job ∷ jobs) h back =
+      one_more job.seat h.2.seat (leaves hall v h.0 (who + 1) wires jobs h.1 back)
+    where
+      one_more : (seat : Option (SeatValue E O M)) → MadeSeat hall h.0 w seat job.worked
+          → Leaves v h.0 (seat_names jobs)
+          → Leaves v w (option_to_list (seat_name seat) ++ seat_names jobs)
+      one_more None m l = same-leaves v h.0 w (seat_names jobs) m.0 l
+      one_more (Some seat) m l = split-leaves v h.0 w seat.view (seat_names jobs) m.1 l
 
 module _ {W P E O M R T : Type 0} (rules : Rules P E O M R T) (see : Sight W R T) (hall : HallValue M) (most : ℕ) where
   -- a worker's seat keeps its name

@@ -152,8 +152,8 @@ module _ {W P E O M R T : Type 0} (rules : Rules P E O M R T) (may : M → E →
         each = tt;
         numbers = refl;
         links =
-            subst (λ x. WhereKnown (see.links old.wire) (HandsOver []) (see.links x)) (sym same)
-            (known-none (see.links old.wire));
+            subst (λ x. WhereKnown (see.links old.wire) (HandsOver {P = P} {E = E} {O = O} {M = M} []) (see.links x)) (sym same)
+            (known-none P E O M (see.links old.wire));
         few = omega arith;
         all = inr (inl up);
         faults = inl (ap see.faults same);

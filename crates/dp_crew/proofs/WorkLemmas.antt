@@ -37,6 +37,13 @@ all-more : {X : Type 0} (P : X → Type 0) (xs : List X) (y : X) → AllByRecurs
 all-more P [] y h last = (last, tt)
 all-more P (x ∷ xs) y h last = (h.0, all-more P xs y h.1 last)
 
+module _ {R T : Type 0} where
+  known-stays : (a b : Option (Links R T))
+      → WhereKnown a (λ x y. (x.to_come ≡ []) × (y ≡ x)) b → WhereKnown a (λ x y. y ≡ x) b
+  known-stays None b h = tt
+  known-stays (Some a) None h = absurd h
+  known-stays (Some a) (Some b) h = h.1
+
 module _ {P E O M R T : Type 0} where
   acts-more : (runs : List (LinkRun P E O M R T)) (run : LinkRun P E O M R T)
       → acts_of (runs ++ run ∷ []) ≡ acts_of runs ++ run.acts
@@ -91,12 +98,6 @@ module _ {P E O M R T : Type 0} where
   known-same runs (Some a) (Some b) None h is = absurd is
   known-same runs (Some a) (Some b) (Some c) h is = subst (HandsOver runs a) (sym is) h
 
-  known-stays : (a b : Option (Links R T))
-      → WhereKnown a (λ x y. (x.to_come ≡ []) × (y ≡ x)) b → WhereKnown a (λ x y. y ≡ x) b
-  known-stays None b h = tt
-  known-stays (Some a) None h = absurd h
-  known-stays (Some a) (Some b) h = h.1
-
   none-left : (runs : List (LinkRun P E O M R T)) (a b c : Option (Links R T))
       → WhereKnown a (HandsOver runs) b → WhereKnown b (λ x y. (x.to_come ≡ []) × (y ≡ x)) c
       → NoneToCome a c
@@ -106,16 +107,19 @@ module _ {P E O M R T : Type 0} where
   none-left runs (Some a) (Some b) (Some c) h none =
       ap (λ (l : Links R T). l.to_come) none.1 ∙ none.0
 
-  hands-none : (a : Links R T) → HandsOver [] a a
-  hands-none a = record {
-    came = refl;
-    given = sym (append-nil a.given);
-    back = sym (append-nil a.back);
-  }
+-- no link was handed out
+hands-none : (P E O M : Type 0) {R T : Type 0} (a : Links R T)
+    → HandsOver {P = P} {E = E} {O = O} {M = M} [] a a
+hands-none P E O M a = record {
+  came = refl;
+  given = sym (append-nil a.given);
+  back = sym (append-nil a.back);
+}
 
-  pub known-none : (a : Option (Links R T)) → WhereKnown a (HandsOver []) a
-  known-none None = tt
-  known-none (Some a) = hands-none a
+pub known-none : (P E O M : Type 0) {R T : Type 0} (a : Option (Links R T))
+    → WhereKnown a (HandsOver {P = P} {E = E} {O = O} {M = M} []) a
+known-none P E O M None = tt
+known-none P E O M (Some a) = hands-none P E O M a
 
 -- ---- flags
 
@@ -140,7 +144,7 @@ module _ {P E O M R T : Type 0} (rules : Rules P E O M R T) (may : M → E → O
       numbers = refl;
       each = tt;
       goes = goes;
-      links = known-none links;
+      links = known-none P E O M links;
       memory = λ h. cc (h);
       fault = fault;
       wire = subst (λ b. FaultMatchesWire b count count) (sym wire) refl;

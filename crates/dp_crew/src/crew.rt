@@ -8,10 +8,19 @@ ghost use Rattle.dp_crew.specs.Gathering.{Gathers, IsFirst, all_reports};
 
 use crate::gather::gather;
 use crate::jobs::{Job, make_jobs, run_jobs};
-use crate::{Crew, Flags, Reports, Service};
-use dp_hall::{Machine, Seat};
+use crate::{Flags, Reports, Service};
+use dp_hall::{Hall, Machine, Seat};
 use dp_wire::Wire;
+use std::alloc::Global;
 use std::thread::Threads;
+
+/// What workers share: their memory, the hall, and what serves a link on its seats.
+#[derive(Drop)]
+pub struct Crew<'a, M: Machine, S> {
+    pub alloc: Global,
+    pub hall: &'a Hall<M>,
+    pub service: &'a S,
+}
 
 /// What a crew left.
 #[derive(Drop)]
@@ -31,7 +40,7 @@ pub struct Ran<W, P> {
 /// If memory runs out, a worker ends or doesn't begin, and the flag says so.
 pub fn run_crew<
     W: Wire + Send,
-    M: Machine + Send,
+    M: Machine<Reply: Send, Answer: Send> + Send,
     S: Service<M, W::Rx, W::Tx, Report: Send> + Sync,
     R: Threads + Sync,
 >(
@@ -41,6 +50,7 @@ pub fn run_crew<
     wires: Vec<W>,
     conns: Option<u32>,
 ) -> Ran<W, S::Report>
+    requires same { S.hall crew.now.service.now ≡ crew.now.hall.now }
     requires of { IsOf crew.now.hall.now seat.old }
     requires first { IsFirst seat.old.view }
     requires begins { S.rules.begins crew.now.hall.now.start }
@@ -81,7 +91,7 @@ pub fn run_crew<
 /// their lists of reports.
 fn run_all<
     W: Wire + Send,
-    M: Machine + Send,
+    M: Machine<Reply: Send, Answer: Send> + Send,
     S: Service<M, W::Rx, W::Tx, Report: Send> + Sync,
     R: Threads + Sync,
 >(
@@ -93,6 +103,7 @@ fn run_all<
     lists: &mut Vec<Vec<S::Report>>,
     conns: Option<u32>,
 ) -> Flags
+    requires same { S.hall crew.now.service.now ≡ crew.now.hall.now }
     requires of { IsOf crew.now.hall.now seat.old }
     requires first { IsFirst seat.old.view }
     requires begins { S.rules.begins crew.now.hall.now.start }
@@ -109,8 +120,8 @@ fn run_all<
     let _most = conns.unwrap_or(u32::MAX);
     let mut jobs = jobs;
     make_jobs(crew.alloc, crew.hall, seat, wires, &mut jobs);
-    run_jobs(rt, crew, &mut jobs, conns);
-    let flags = gather(crew, seat, &mut jobs, wires, lists);
+    run_jobs(rt, crew.alloc, crew.service, &mut jobs, conns);
+    let flags = gather::<W, M, S>(crew.hall, seat, &mut jobs, wires, lists);
     jobs.destroy_empty();
     flags
 }

@@ -10,34 +10,34 @@ ghost use Rattle.dp_crew.specs.Jobs.{JobValue, MadeJobs, RanJobs};
 ghost use Rattle.dp_crew.specs.Gathering.{Gathers, IsFirst, JoinsSeat, all_reports};
 
 use crate::jobs::Job;
-use crate::{Crew, Flags, Service, Worked};
+use crate::{Flags, Service, Worked};
 use dp_hall::{Hall, Machine, Seat, seats_are_sound};
 use dp_wire::Wire;
 
 /// Joins the seats of all jobs, puts their wires back in their order, and adds their lists of
 /// reports. There is room for both.
 pub(crate) fn gather<W: Wire, M: Machine, S: Service<M, W::Rx, W::Tx>>(
-    crew: &Crew<'_, M, S>,
+    hall: &Hall<M>,
     seat: &mut Seat<M>,
     jobs: &mut Vec<Job<W, M, S::Report>>,
     wires: &mut Vec<W>,
     lists: &mut Vec<Vec<S::Report>>,
 ) -> Flags
-    requires of { IsOf crew.now.hall.now seat.old }
-    requires seats { All (λ job. IfSome job.seat (IsOf crew.now.hall.now)) jobs.old.items }
-    requires begins { S.rules.begins crew.now.hall.now.start }
+    requires of { IsOf hall.now seat.old }
+    requires seats { All (λ job. IfSome job.seat (IsOf hall.now)) jobs.old.items }
+    requires begins { S.rules.begins hall.now.start }
     requires empty { (wires.old.items ≡ []) × (lists.old.items ≡ []) }
     requires room { (vec_len jobs.old ≤ vec_capacity wires.old)
         × (vec_len jobs.old ≤ vec_capacity lists.old) }
-    ensures of { IsOf crew.now.hall.now seat.new }
+    ensures of { IsOf hall.now seat.new }
     ensures taken { jobs.new.items ≡ [] }
     ensures gathers { (v : View M.Event (Result M.Reply AllocError) M) (olds : List W)
         (made : List (JobValue W S.Report M.Event (Result M.Reply AllocError) M)) (most : ℕ)
         → IsFirst v → most ≤ 2 ^ 32 - 1
-        → MadeJobs crew.now.hall.now v seat.old.view 0 olds (reverse made)
-        → RanJobs S.rules (record { links = W.links; faults = W.faults }) crew.now.hall.now most
+        → MadeJobs hall.now v seat.old.view 0 olds (reverse made)
+        → RanJobs S.rules (record { links = W.links; faults = W.faults }) hall.now most
         made jobs.old.items
-        → Gathers S.rules (record { links = W.links; faults = W.faults }) crew.now.hall.now.start
+        → Gathers S.rules (record { links = W.links; faults = W.faults }) hall.now.start
         most seat.new.view [] olds wires.new.items (all_reports lists.new.items) result }
 {
     S::reports_go_on();
@@ -47,7 +47,7 @@ pub(crate) fn gather<W: Wire, M: Machine, S: Service<M, W::Rx, W::Tx>>(
         wire: false,
     };
     'jobs: while let Some(job) = jobs.pop() {
-        take_in(crew.hall, seat, job, wires, lists, &mut flags);
+        take_in(hall, seat, job, wires, lists, &mut flags);
     }
     flags
 }

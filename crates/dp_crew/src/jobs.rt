@@ -5,7 +5,7 @@ ghost use Rattle.dp_hall.specs.Calls.{IsOf};
 ghost use Rattle.dp_crew.specs.Runs.{most_links};
 ghost use Rattle.dp_crew.specs.Jobs.{MadeJob, MadeJobs, RanJob, RanJobs};
 
-use crate::{Crew, Service, Worked, run_links};
+use crate::{Service, Worked, run_links};
 use dp_hall::{Hall, Machine, Seat};
 use dp_wire::Wire;
 use std::alloc::{AllocError, Global};
@@ -87,13 +87,13 @@ fn make_job<W, M: Machine, P>(
 /// Runs the workers of the jobs, all at the same time if threads can be made.
 pub(crate) fn run_jobs<
     W: Wire + Send,
-    M: Machine + Send,
+    M: Machine<Reply: Send, Answer: Send> + Send,
     S: Service<M, W::Rx, W::Tx, Report: Send> + Sync,
     R: Threads + Sync,
->(rt: &R, crew: &Crew<'_, M, S>, jobs: &mut [Job<W, M, S::Report>], conns: Option<u32>)
-    requires of { All (λ job. IfSome job.seat (IsOf crew.now.hall.now)) jobs.old }
-    requires begins { S.rules.begins crew.now.hall.now.start }
-    ensures { RanJobs S.rules (record { links = W.links; faults = W.faults }) crew.now.hall.now
+>(rt: &R, alloc: Global, service: &S, jobs: &mut [Job<W, M, S::Report>], conns: Option<u32>)
+    requires of { All (λ job. IfSome job.seat (IsOf (S.hall service.now))) jobs.old }
+    requires begins { S.rules.begins (S.hall service.now).start }
+    ensures { RanJobs S.rules (record { links = W.links; faults = W.faults }) (S.hall service.now)
         (most_links conns) jobs.old jobs.new }
 {
     let threads = jobs.len();
@@ -105,27 +105,28 @@ pub(crate) fn run_jobs<
         jobs,
         threads,
         &|_, job: &mut Job<W, M, S::Report>|
-            requires { IfSome job.now.seat (IsOf crew.now.hall.now)
-                × S.rules.begins crew.now.hall.now.start }
+            requires { IfSome job.now.seat (IsOf (S.hall service.now))
+                × S.rules.begins (S.hall service.now).start }
             ensures { RanJob S.rules (record { links = W.links; faults = W.faults })
-                crew.entry.now.hall.now (most_links conns) job.entry.now job.exit.now }
-        { run_job(crew, job, conns) },
+                (S.hall service.entry.now) (most_links conns) job.entry.now job.exit.now }
+        { run_job(alloc, service, job, conns) },
     );
 }
 
 /// Runs the worker of a job.
 fn run_job<W: Wire, M: Machine, S: Service<M, W::Rx, W::Tx>>(
-    crew: &Crew<'_, M, S>,
+    alloc: Global,
+    service: &S,
     job: &mut Job<W, M, S::Report>,
     conns: Option<u32>,
 )
-    requires of { IfSome job.old.seat (IsOf crew.now.hall.now) }
-    requires begins { S.rules.begins crew.now.hall.now.start }
-    ensures { RanJob S.rules (record { links = W.links; faults = W.faults }) crew.now.hall.now
+    requires of { IfSome job.old.seat (IsOf (S.hall service.now)) }
+    requires begins { S.rules.begins (S.hall service.now).start }
+    ensures { RanJob S.rules (record { links = W.links; faults = W.faults }) (S.hall service.now)
         (most_links conns) job.old job.new }
 {
     let Some(seat) = &mut job.seat else {
         return;
     };
-    job.worked = run_links(crew, job.who, seat, &mut job.wire, conns);
+    job.worked = run_links(alloc, service, job.who, seat, &mut job.wire, conns);
 }

@@ -12,10 +12,10 @@ mod service;
 mod worked;
 mod worker;
 
-pub use crew::{Ran, run_crew};
+pub use crew::{Crew, Ran, run_crew};
 pub use flags::Flags;
 pub use laws::crews_add_up;
 pub use reports::Reports;
 pub use service::{Served, Service};
 pub use worked::Worked;
-pub use worker::{Crew, run_links};
+pub use worker::run_links;

@@ -2,11 +2,11 @@
 
 ghost use Rattle.std.specs.Prelude.{◌≡◌, Result};
 ghost use Rattle.std.specs.declared.alloc.AllocError.{AllocError};
-ghost use Rattle.dp_hall.specs.Calls.{IsOf};
+ghost use Rattle.dp_hall.specs.Calls.{HallValue, IsOf};
 ghost use Rattle.dp_hall.specs.Logs.{left_by};
 ghost use Rattle.dp_crew.specs.Runs.{Rules, ServesLink, GoesOn};
 
-use dp_hall::{Hall, Machine, Seat};
+use dp_hall::{Machine, Seat};
 
 /// A link after it was served.
 pub struct Served<R, T, P> {
@@ -25,23 +25,25 @@ pub trait Service<M: Machine, R, T> {
     /// What is told of a link.
     type Report: Drop;
 
+    /// The hall on whose seats it serves.
+    ghost hall: { Self → HallValue M };
+
     /// What is told of links, and of which links it is told.
     ghost rules: { Rules Self.Report M.Event (Result M.Reply AllocError) M R T };
 
     /// Serves a link to its end: the link of this number, from 0, among those of the worker's wire.
     fn serve(
         &self,
-        hall: &Hall<M>,
         seat: &mut Seat<M>,
         rx: R,
         tx: T,
         who: u32,
         link: u32,
     ) -> Served<R, T, Self::Report>
-        requires of { IsOf hall.now seat.old }
-        requires begins { rules.begins hall.now.start }
-        ensures of { IsOf hall.now seat.new }
-        ensures serves { ServesLink rules (left_by hall.now.start seat.new.view.seen) who link
+        requires of { IsOf (hall self.now) seat.old }
+        requires begins { rules.begins (hall self.now).start }
+        ensures of { IsOf (hall self.now) seat.new }
+        ensures serves { ServesLink rules (left_by (hall self.now).start seat.new.view.seen) who link
             seat.old.view seat.new.view (rx, tx) result };
 
     /// A law: what is told of a link is so of each longer log.

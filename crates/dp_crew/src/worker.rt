@@ -8,40 +8,33 @@ ghost use Rattle.dp_wire.specs.Links.{Links};
 ghost use Rattle.dp_crew.specs.Runs.{Works, ServedSoFar, ServesNext, most_links};
 
 use crate::{Served, Service, Worked};
-use dp_hall::{Hall, Machine, Seat, calls_add_up, seats_are_sound};
+use dp_hall::{Machine, Seat, calls_add_up, seats_are_sound};
 use dp_wire::{Wire, WireError};
 use std::alloc::{AllocError, Global};
-
-/// What workers share: their memory, the hall, and what serves a link.
-#[derive(Drop)]
-pub struct Crew<'a, M: Machine, S> {
-    pub alloc: Global,
-    pub hall: &'a Hall<M>,
-    pub service: &'a S,
-}
 
 /// Serves the links of a wire, one after another, until `conns` links were served or none is to
 /// come. It also stops if the wire fails or there is no memory for a report. A link that was handed
 /// out is handed back and has its report, however it ended. 2^32 - 1 stands for no number.
 pub fn run_links<W: Wire, M: Machine, S: Service<M, W::Rx, W::Tx>>(
-    crew: &Crew<'_, M, S>,
+    alloc: Global,
+    service: &S,
     who: u32,
     seat: &mut Seat<M>,
     wire: &mut W,
     conns: Option<u32>,
 ) -> Worked<S::Report>
-    requires of { IsOf crew.now.hall.now seat.old }
-    requires begins { S.rules.begins crew.now.hall.now.start }
-    ensures of { IsOf crew.now.hall.now seat.new }
-    ensures works { Works S.rules crew.now.hall.now.start who (most_links conns) seat.old.view
+    requires of { IsOf (S.hall service.now) seat.old }
+    requires begins { S.rules.begins (S.hall service.now).start }
+    ensures of { IsOf (S.hall service.now) seat.new }
+    ensures works { Works S.rules (S.hall service.now).start who (most_links conns) seat.old.view
         seat.new.view (W.links wire.old) (W.links wire.new) (W.faults wire.old)
         (W.faults wire.new) result }
 {
     calls_add_up::<M::Event, Result<M::Reply, AllocError>, M>();
     let most = conns.unwrap_or(u32::MAX);
-    let mut worked = Worked::new(crew.alloc);
+    let mut worked = Worked::new(alloc);
     'links: for link in 0..most {
-        if !serve_next(crew, who, seat, wire, link, &mut worked) {
+        if !serve_next(service, who, seat, wire, link, &mut worked) {
             return worked;
         }
     }
@@ -51,21 +44,21 @@ pub fn run_links<W: Wire, M: Machine, S: Service<M, W::Rx, W::Tx>>(
 /// Serves the next link of the wire, if there is one, which gets this number. Whether the worker
 /// goes on. The room for the report is made before the link is accepted.
 fn serve_next<W: Wire, M: Machine, S: Service<M, W::Rx, W::Tx>>(
-    crew: &Crew<'_, M, S>,
+    service: &S,
     who: u32,
     seat: &mut Seat<M>,
     wire: &mut W,
     link: u32,
     worked: &mut Worked<S::Report>,
 ) -> bool
-    requires of { IsOf crew.now.hall.now seat.old }
-    requires begins { S.rules.begins crew.now.hall.now.start }
-    ensures of { IsOf crew.now.hall.now seat.new }
+    requires of { IsOf (S.hall service.now) seat.old }
+    requires begins { S.rules.begins (S.hall service.now).start }
+    ensures of { IsOf (S.hall service.now) seat.new }
     ensures serves { (v : View M.Event (Result M.Reply AllocError) M)
         (links : Option (Links W.Rx W.Tx)) (count : ℕ)
-        → ServedSoFar S.rules crew.now.hall.now.start who link v seat.old.view links
+        → ServedSoFar S.rules (S.hall service.now).start who link v seat.old.view links
         (W.links wire.old) count (W.faults wire.old) worked.old
-        → ServesNext result S.rules crew.now.hall.now.start who link v seat.new.view links
+        → ServesNext result S.rules (S.hall service.now).start who link v seat.new.view links
         (W.links wire.new) count (W.faults wire.new) worked.new }
 {
     S::reports_go_on();
@@ -81,7 +74,7 @@ fn serve_next<W: Wire, M: Machine, S: Service<M, W::Rx, W::Tx>>(
                 report,
                 memory,
                 fault,
-            } = crew.service.serve(crew.hall, seat, rx, tx, who, link);
+            } = service.serve(seat, rx, tx, who, link);
             seats_are_sound(seat);
             wire.done(rx, tx);
             worked.note(report, memory, fault);

@@ -1,7 +1,10 @@
 //! A machine that adds bytes, and a service whose links say the bytes.
 
-ghost use Rattle.std.specs.Prelude.{◌≡◌, ◌≤◌, length, vec_len};
+ghost use Rattle.std.specs.Prelude.{◌≡◌, ◌<◌, ◌≤◌, ℕ, Result, length};
+ghost use Rattle.std.specs.declared.alloc.AllocError.{AllocError};
+ghost use Rattle.dp_hall.specs.declared.view.View.{View};
 ghost use Rattle.dp_hall.specs.Calls.{IsOf};
+ghost use Rattle.dp_link_tests.specs.declared.counter.Counter.{Counter as Count};
 ghost use Rattle.dp_link_tests.specs.Counting.{Adds};
 
 use dp_crew::{Crew, Ran, Served, Service, crews_add_up, run_crew};
@@ -63,6 +66,7 @@ pub struct Added {
 #[derive(Drop)]
 pub struct Adder<'a, R> {
     pub rt: &'a R,
+    pub hall: &'a Hall<Counter>,
 }
 
 /// How far a link is.
@@ -77,11 +81,12 @@ impl<'a, W: Wait, R: Source, T: Sink> Service<Counter, R, T> for Adder<'a, W> {
 
     type Report = Added;
 
+    ghost hall = { λ adder. adder.hall.now };
+
     ghost rules = { count_rules };
 
     fn serve(
         &self,
-        hall: &Hall<Counter>,
         seat: &mut Seat<Counter>,
         rx: R,
         tx: T,
@@ -90,7 +95,7 @@ impl<'a, W: Wait, R: Source, T: Sink> Service<Counter, R, T> for Adder<'a, W> {
     ) -> Served<R, T, Added> {
         seats_come_back::<u8, Result<u64, AllocError>, Counter>();
         let mut rx = rx;
-        let Far { count, sum, memory } = add_all(self.rt, hall, seat, &mut rx);
+        let Far { count, sum, memory } = add_all(self.rt, self.hall, seat, &mut rx);
         let report = Added {
             worker: who,
             link,
@@ -126,17 +131,31 @@ fn add_all<W: Wait, R: Source>(
         sum: 0,
         memory: false,
     };
-    'bytes: for _ in 0..MOST {
+    'bytes: for _k in 0..MOST {
         let Some(byte) = next_byte(rx) else {
             return far;
         };
-        far.count += 1;
-        match hall.act(rt, seat, &byte) {
-            Ok(sum) => far.sum = sum,
-            Err(AllocError) => far.memory = true,
-        }
+        add_one(rt, hall, seat, byte, &mut far);
     }
     far
+}
+
+/// Adds one byte.
+fn add_one<W: Wait>(rt: &W, hall: &Hall<Counter>, seat: &mut Seat<Counter>, byte: u8, far: &mut Far)
+    requires of { IsOf hall.now seat.old }
+    requires few { far.old.count < 1000 }
+    ensures of { IsOf hall.now seat.new }
+    ensures count { far.new.count ≡ far.old.count + 1 }
+    ensures adds { (v : View ℕ (Result ℕ AllocError) Count)
+        → Adds v far.old.count far.old.memory seat.old.view
+        → Adds v far.new.count far.new.memory seat.new.view }
+{
+    calls_add_up::<u8, Result<u64, AllocError>, Counter>();
+    far.count += 1;
+    match hall.act(rt, seat, &byte) {
+        Ok(sum) => far.sum = sum,
+        Err(AllocError) => far.memory = true,
+    }
 }
 
 /// The next byte of a source, if there is one.
@@ -163,7 +182,7 @@ pub fn count_links<W: Wire + Send + Drop, R: Threads + Wait + Sync>(
     };
     match Hall::start(alloc, counter) {
         Ok((hall, mut seat)) => {
-            let adder = Adder { rt };
+            let adder = Adder { rt, hall: &hall };
             let crew = Crew {
                 alloc,
                 hall: &hall,

@@ -134,10 +134,15 @@ fn serve_wires<W: Wire + Send, K: Keeper + Send, G: Gate, R: Threads + Wait + Sy
         }) }
 {
     journals_are_logs();
-    crews_add_up::<W, Session<K>, W::Rx, W::Tx, Links<'_, R, G>>();
+    crews_add_up::<W, Session<K>, W::Rx, W::Tx, Links<'_, R, K, G>>();
     match Hall::start(alloc, session) {
         Ok((hall, mut seat)) => {
-            let links = Links { rt, alloc, gate };
+            let links = Links {
+                rt,
+                alloc,
+                hall: &hall,
+                gate,
+            };
             let crew = Crew {
                 alloc,
                 hall: &hall,

@@ -18,11 +18,13 @@ use std::alloc::Global;
 use std::sync::Wait;
 use std::thread::Threads;
 
-/// What serves the links of a session: threads and memory, and the gate that workers pass.
+/// What serves the links of a session: threads and memory, the hall of the session, and the gate
+/// that workers pass.
 #[derive(Drop)]
-pub(crate) struct Links<'a, W, G> {
+pub(crate) struct Links<'a, W, K: Keeper, G> {
     pub(crate) rt: &'a W,
     pub(crate) alloc: Global,
+    pub(crate) hall: &'a Hall<Session<K>>,
     pub(crate) gate: &'a G,
 }
 
@@ -33,17 +35,18 @@ impl<
     R: Source + Send,
     T: Sink + Send,
     G: Gate,
-> Service<Session<K>, R, T> for Links<'a, W, G> {
+> Service<Session<K>, R, T> for Links<'a, W, K, G> {
     ghost use Rattle.dp_serve.specs.Links.{link_seen};
     ghost use Rattle.dp_serve.specs.Works.{session_rules};
 
     type Report = LinkReport;
 
+    ghost hall = { λ links. links.hall.now };
+
     ghost rules = { session_rules (link_seen R.left R.faults T.held T.faults) };
 
     fn serve(
         &self,
-        hall: &Hall<Session<K>>,
         seat: &mut Seat<Session<K>>,
         rx: R,
         tx: T,
@@ -53,7 +56,7 @@ impl<
         let worker = Worker {
             rt: self.rt,
             alloc: self.alloc,
-            hall,
+            hall: self.hall,
             who,
             gate: self.gate,
         };

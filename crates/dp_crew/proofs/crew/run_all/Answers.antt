@@ -1,7 +1,8 @@
-use Rattle.std.proofs.Common.{All, IfSome, List, ◌≡◌, ◌++◌, ◌∙◌, arith, drop, length, subst, sym}
+use Rattle.std.proofs.Common.{All, IfSome, List, ◌≡◌, ◌++◌, ◌∙◌, arith, drop, length, subst, subst₂, sym}
 use Rattle.std.proofs.Common.{take, ℕ}
 use Rattle.std.proofs.lemmas.List.{take_at}
 use Rattle.dp_hall.specs.Calls.{IsOf}
+use Rattle.dp_crew.specs.Jobs.{RanJobs}
 use Rattle.dp_crew.proofs.Making.{made-of, made-length, ran-of, ran-same}
 use Rattle.dp_crew.proofs.CrewLemmas.{most-small}
 use Rattle.dp_crew.proofs.crew.run_all.Goals as goal
@@ -13,10 +14,14 @@ given_back olds news n same = take_at news (drop (length news) olds) n same
 
 pub run_jobs-requires-clause-of : goal.run_jobs-requires-clause-of
 run_jobs-requires-clause-of g c κs within =
-    subst (All (λ job. IfSome job.seat (IsOf c.args.crew.now.hall.now)))
+    subst₂ (λ hall jobs. All (λ job. IfSome job.seat (IsOf hall)) jobs) (sym c.requires.same)
     (sym c.deref_mut.ensures.value) (made-of c.args.crew.now.hall.now c.args.seat.now.view
     c.make_jobs.new.seat.view c.args.wires.now.items c.make_jobs.new.jobs.items
     c.make_jobs.ensures.made)
+
+pub run_jobs-requires-clause-begins : goal.run_jobs-requires-clause-begins
+run_jobs-requires-clause-begins g c κs within =
+    subst (λ hall. g.S.Service.rules.begins hall.start) (sym c.requires.same) c.requires.begins
 
 pub gather-flags-requires-clause-seats : goal.gather-flags-requires-clause-seats
 gather-flags-requires-clause-seats g c κs within =
@@ -24,7 +29,9 @@ gather-flags-requires-clause-seats g c κs within =
     (sym (given_back c.make_jobs.new.jobs.items c.run_jobs.new.jobs c.make_jobs.new.jobs.len
     (c.run_jobs.auto.jobs ∙ c.deref_mut.ensures.len)))
     (ran-of g.S.Service.rules _ c.args.crew.now.hall.now _ c.deref_mut.result.now
-    c.run_jobs.new.jobs c.run_jobs.ensures)
+    c.run_jobs.new.jobs
+    (subst (λ hall. RanJobs g.S.Service.rules _ hall _ c.deref_mut.result.now c.run_jobs.new.jobs)
+    c.requires.same c.run_jobs.ensures))
 
 pub gather-flags-requires-clause-room : goal.gather-flags-requires-clause-room
 gather-flags-requires-clause-room g c κs within =
@@ -45,4 +52,6 @@ returns-clause-gathers g c =
     (ran-same g.S.Service.rules _ c.args.crew.now.hall.now _ c.deref_mut.result.now
     c.run_jobs.new.jobs c.make_jobs.new.jobs.items
     (take c.make_jobs.new.jobs.len (c.run_jobs.new.jobs ++ drop (length c.run_jobs.new.jobs)
-    c.make_jobs.new.jobs.items)) c.deref_mut.ensures.value (sym back) c.run_jobs.ensures)
+    c.make_jobs.new.jobs.items)) c.deref_mut.ensures.value (sym back)
+    (subst (λ hall. RanJobs g.S.Service.rules _ hall _ c.deref_mut.result.now c.run_jobs.new.jobs)
+    c.requires.same c.run_jobs.ensures))

@@ -17,8 +17,8 @@ invariant-jobs g l =
       faults = g.W.Wire.faults;
     } in
     record {
-      of : IsOf l.crew.hall.now l.seat;
-      jobs : All (λ job. IfSome job.seat (IsOf l.crew.hall.now)) l.jobs.items;
+      of : IsOf l.hall l.seat;
+      jobs : All (λ job. IfSome job.seat (IsOf l.hall)) l.jobs.items;
       wires_room : vec_len l.jobs + vec_len l.wires ≤ vec_capacity l.wires;
       lists_room : vec_len l.jobs + vec_len l.lists ≤ vec_capacity l.lists;
       gathered : (v : View g.row.M-Event.Denot (Result g.row.M-Reply.Denot AllocError) g.row.M.Denot)
@@ -26,9 +26,9 @@ invariant-jobs g l =
           (made : List (JobValue g.row.W.Denot g.row.S-Report.Denot g.row.M-Event.Denot
           (Result g.row.M-Reply.Denot AllocError) g.row.M.Denot))
           (most : ℕ) → IsFirst v → most ≤ 2 ^ 32 - 1
-          → MadeJobs l.crew.hall.now v l.fn.seat.view 0 olds (reverse made)
-          → RanJobs rules see l.crew.hall.now most made l.fn.jobs.items
-          → GatheredSoFar rules see l.crew.hall.now most v l.seat.view olds l.jobs.items
+          → MadeJobs l.hall v l.fn.seat.view 0 olds (reverse made)
+          → RanJobs rules see l.hall most made l.fn.jobs.items
+          → GatheredSoFar rules see l.hall most v l.seat.view olds l.jobs.items
           l.wires.items (all_reports l.lists.items) l.flags;
     }
 

@@ -1,26 +1,28 @@
 use denote.Param.Send.{sendable}
 use Rattle.std.proofs.Common.{get_or}
-use Rattle.std.proofs.Crossing.{sync}
-use Rattle.dp_hall.proofs.Sending.{hall_sync}
+use Rattle.std.proofs.Crossing.{crosses, sync}
+use Rattle.dp_hall.proofs.Sending.{seat_send}
 use Rattle.dp_crew.specs.Runs.{most_links}
-use Rattle.dp_crew.proofs.Sending.{job_send, number_sync}
+use Rattle.dp_crew.proofs.Sending.{number_sync}
 use Rattle.dp_crew.proofs.Making.{ran-at, ran-each}
 use Rattle.dp_crew.proofs.jobs.run_jobs.Goals as goal
 
 pub for_each_mut-requires-send-T : goal.for_each_mut-requires-send-T
-for_each_mut-requires-send-T g c κs within = search (sendable, job_send) depth 20
+for_each_mut-requires-send-T g c κs within = search (sendable, crosses, seat_send) depth 20
 
 pub for_each_mut-requires-sync-F : goal.for_each_mut-requires-sync-F
 for_each_mut-requires-sync-F g c κs within =
-    search (sendable, sync, number_sync, hall_sync) depth 20
+    let service = c.type_bounds.sync-S in
+    search (sendable, sync, number_sync) depth 20
 
 pub returns : goal.returns
 returns g c =
     let olds = c.args.jobs.now in
     let news = c.for_each_mut.new.s in
     let most = most_links c.args.conns in
-    ran-each g.S.Service.rules _ c.args.crew.now.hall.now most olds news c.for_each_mut.auto.s
+    ran-each g.S.Service.rules _ (g.S.Service.hall c.args.service.now) most olds news
+    c.for_each_mut.auto.s
     (λ i d inside.
     let job = (c.for_each_mut.ensures i d inside).1 in
-    ran-at g.S.Service.rules _ c.args.crew.now.hall.now most job.argument.now job.after_call.now
-    (get_or olds i d) (get_or news i d) job.argument_is job.left job.call)
+    ran-at g.S.Service.rules _ (g.S.Service.hall c.args.service.now) most job.argument.now
+    job.after_call.now (get_or olds i d) (get_or news i d) job.argument_is job.left job.call)
