@@ -2,6 +2,7 @@ use Rattle.std.proofs.Common.{All, IfSome, List, ◌≡◌, ◌++◌, ◌∙◌,
 use Rattle.std.proofs.Common.{take, ℕ}
 use Rattle.std.proofs.lemmas.List.{take_at}
 use Rattle.dp_hall.specs.Calls.{IsOf}
+use Rattle.dp_crew.specs.Runs.{most_links}
 use Rattle.dp_crew.specs.Jobs.{RanJobs}
 use Rattle.dp_crew.proofs.Making.{made-of, made-length, ran-of, ran-same}
 use Rattle.dp_crew.proofs.CrewLemmas.{most-small}
@@ -28,9 +29,12 @@ gather-flags-requires-clause-seats g c κs within =
     subst (All (λ job. IfSome job.seat (IsOf c.args.crew.now.hall.now)))
     (sym (given_back c.make_jobs.new.jobs.items c.run_jobs.new.jobs c.make_jobs.new.jobs.len
     (c.run_jobs.auto.jobs ∙ c.deref_mut.ensures.len)))
-    (ran-of g.S.Service.rules _ c.args.crew.now.hall.now _ c.deref_mut.result.now
+    (ran-of g.S.Service.rules (record { links = g.W.Wire.links; faults = g.W.Wire.faults })
+    c.args.crew.now.hall.now (most_links c.args.conns) c.deref_mut.result.now
     c.run_jobs.new.jobs
-    (subst (λ hall. RanJobs g.S.Service.rules _ hall _ c.deref_mut.result.now c.run_jobs.new.jobs)
+    (subst (λ hall. RanJobs g.S.Service.rules
+    (record { links = g.W.Wire.links; faults = g.W.Wire.faults }) hall (most_links c.args.conns)
+    c.deref_mut.result.now c.run_jobs.new.jobs)
     c.requires.same c.run_jobs.ensures))
 
 pub gather-flags-requires-clause-room : goal.gather-flags-requires-clause-room
@@ -49,9 +53,12 @@ returns-clause-gathers g c =
     c.make_jobs.new.jobs.items _ c.requires.first
     (most-small c.args.conns c.unwrap_or-most.result c.unwrap_or-most.type_inv
     c.unwrap_or-most.ensures) c.make_jobs.ensures.made
-    (ran-same g.S.Service.rules _ c.args.crew.now.hall.now _ c.deref_mut.result.now
+    (ran-same g.S.Service.rules (record { links = g.W.Wire.links; faults = g.W.Wire.faults })
+    c.args.crew.now.hall.now (most_links c.args.conns) c.deref_mut.result.now
     c.run_jobs.new.jobs c.make_jobs.new.jobs.items
     (take c.make_jobs.new.jobs.len (c.run_jobs.new.jobs ++ drop (length c.run_jobs.new.jobs)
     c.make_jobs.new.jobs.items)) c.deref_mut.ensures.value (sym back)
-    (subst (λ hall. RanJobs g.S.Service.rules _ hall _ c.deref_mut.result.now c.run_jobs.new.jobs)
+    (subst (λ hall. RanJobs g.S.Service.rules
+    (record { links = g.W.Wire.links; faults = g.W.Wire.faults }) hall (most_links c.args.conns)
+    c.deref_mut.result.now c.run_jobs.new.jobs)
     c.requires.same c.run_jobs.ensures))

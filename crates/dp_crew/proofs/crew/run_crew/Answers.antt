@@ -4,7 +4,7 @@ use Rattle.dp_crew.proofs.CrewLemmas.{gathers-nothing, reports-few}
 use Rattle.dp_crew.proofs.crew.run_crew.Goals as goal
 
 pub of-reports-requires : goal.of-reports-requires
-of-reports-requires g c κs within =
+of-reports-requires g c =
     reports-few g.S.Service.rules _ c.args.crew.now.hall.now.start _ c.run_all-flags.new.seat.view
     [] c.args.wires.items c.run_all-flags.new.wires.items
     (all_reports c.run_all-flags.new.lists.items) c.run_all-flags.result c.requires.few
