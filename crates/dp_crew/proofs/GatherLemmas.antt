@@ -16,7 +16,6 @@ use Rattle.dp_hall.specs.Names.{IsIn, AreDistinct, old_names}
 use Rattle.dp_hall.proofs.LawLemmas.{back-split}
 use Rattle.dp_hall.proofs.ListLemmas.{in_both, in_left, in_map, in_right, distinct_both}
 use Rattle.dp_crew.specs.declared.flags.Flags.{Flags}
-use Rattle.dp_crew.specs.declared.worked.Worked.{Worked}
 use Rattle.dp_crew.specs.Runs.{Rules, GoesOn, acts_of, has_fault}
 use Rattle.dp_crew.specs.Parts.{Sight, Part, EachFrom, HasFailed, names_of, reports_of}
 use Rattle.dp_crew.specs.Jobs.{JobValue, MadeSeat, MadeJobs, RanJob, RanJobs, WorksOnSeat}
@@ -27,7 +26,8 @@ use Rattle.dp_crew.proofs.PartLemmas.{seat_name, Stays, fits-later, joined-later
 -- ---- parts
 
 module _ {W P E O M R T : Type 0} where
-  pub each-later : (X Y : ℕ → Part W P E O M R T → Type 0) (who : ℕ) (parts : List (Part W P E O M R T))
+  pub each-later : (X Y : ℕ → Part W P E O M R T → Type 0) (who : ℕ) (parts : List
+      (Part W P E O M R T))
       → ((n : ℕ) (part : Part W P E O M R T) → X n part → Y n part)
       → EachFrom X who parts → EachFrom Y who parts
   each-later X Y who [] later h = tt
@@ -56,7 +56,8 @@ module _ {W P E O M R T : Type 0} where
       ∙ ap (λ l. reports_of parts ++ l) (append-nil (map (λ run. run.report) part.runs))
 
   -- the names of parts that were joined are names of seats that were joined
-  named : (rules : Rules P E O M R T) (see : Sight W R T) (start : M) (v : View E O M) (most : ℕ) (flags : Flags) (who : ℕ)
+  named : (rules : Rules P E O M R T) (see : Sight W R T) (start : M) (v : View E O M) (most : ℕ)
+      (flags : Flags) (who : ℕ)
       (parts : List (Part W P E O M R T)) (n : List ℕ)
       → EachFrom (IsJoined rules see start v most flags) who parts
       → IsIn n (names_of parts) → IsIn n (old_names v.olds)
@@ -71,7 +72,8 @@ module _ {W P E O M R T : Type 0} where
       own None joined a = absurd a
       own (Some name) joined (inl e) =
           subst (λ x. IsIn x (old_names v.olds)) (sym e)
-          (in_map (λ (o : List ℕ × List (Entry E O M)). o.0) (name, acts_of part.runs) v.olds joined)
+          (in_map (λ (o : List ℕ × List (Entry E O M)). o.0)
+          (name, acts_of part.runs) v.olds joined)
       own (Some name) joined (inr a) = absurd a
 
 one_name : (name : Option (List ℕ)) → AreDistinct (option_to_list name)
@@ -97,7 +99,8 @@ module _ {W P E O M R T : Type 0} (rules : Rules P E O M R T) (may : M → E →
     (wire : new.wire ≡ old.wire || job.worked.wire) where
   pub gathers-more : (out : List (List ℕ)) (done wires : List W) (reports : List P)
       (who : ℕ) (made : W)
-      → Gathers rules see start most v (option_to_list (seat_name job.seat) ++ out) done wires reports old
+      → Gathers rules see start most v (option_to_list
+      (seat_name job.seat) ++ out) done wires reports old
       → who ≡ length done → Adds rules see start most v w new who made job
       → Gathers rules see start most w out (done ++ made ∷ []) (wires ++ job.wire ∷ [])
       (reports ++ job.worked.reports.items) new
@@ -148,9 +151,11 @@ module _ {W P E O M R T : Type 0} (rules : Rules P E O M R T) (may : M → E →
       each : EachFrom (IsJoined rules see start w most new) 0 (g.parts ++ a.part ∷ [])
       each =
           each-more (IsJoined rules see start w most new) 0 who g.parts a.part
-          (each-later (IsJoined rules see start v most old) (IsJoined rules see start w most new) 0 g.parts
+          (each-later (IsJoined rules see start v most old)
+          (IsJoined rules see start w most new) 0 g.parts
           (λ n part h. (
-            fits-later rules may see goes_on start v.seen w.seen shut legal a.begins most old.memory old.wire
+            fits-later rules may see goes_on start v.seen w.seen shut legal a.begins most
+                old.memory old.wire
                 new.memory new.wire n part up failed h.0,
             joined-later v w part.name (acts_of part.runs) a.kept h.1,
           )) g.each) place a.joined
@@ -187,7 +192,8 @@ module _ {W P E O M R T : Type 0} (rules : Rules P E O M R T) (may : M → E →
           new_one (inr (inr e)) = inr e
 
       wire_cause : (b : Bool) → old.wire ≡ b → old.wire || job.worked.wire ≡ true
-          → (part : Part W P E O M R T) × IsIn part (g.parts ++ a.part ∷ []) × HasFailed see new.wire part
+          → (part : Part W P E O M R T) × IsIn part
+          (g.parts ++ a.part ∷ []) × HasFailed see new.wire part
       wire_cause true before e =
           let h = g.wire before in
           (h.0, in_left h.0 g.parts (a.part ∷ []) h.1, (h.2.0, failed before))
@@ -240,14 +246,16 @@ module _ {W P E O M : Type 0} where
       one_more None m l = same-leaves v h.0 w (seat_names jobs) m.0 l
       one_more (Some seat) m l = split-leaves v h.0 w seat.view (seat_names jobs) m.1 l
 
-module _ {W P E O M R T : Type 0} (rules : Rules P E O M R T) (see : Sight W R T) (hall : HallValue M) (most : ℕ) where
+module _ {W P E O M R T : Type 0} (rules : Rules P E O M R T) (see : Sight W R T)
+    (hall : HallValue M) (most : ℕ) where
   -- a worker's seat keeps its name
   ran-name : (old new : JobValue W P E O M) → RanJob rules see hall most old new
       → seat_name old.seat ≡ seat_name new.seat
   ran-name old new h = by_seat old.seat new.seat h.works
     where
       by_seat : (before after : Option (SeatValue E O M))
-          → WorksOnSeat rules see hall most old new before after → seat_name before ≡ seat_name after
+          → WorksOnSeat rules see hall most old new before after
+          → seat_name before ≡ seat_name after
       by_seat None after r = ap seat_name (sym r.0)
       by_seat (Some given) None r = absurd r
       by_seat (Some given) (Some after) r = ap (λ n. Some n) (sym r.1.served.goes.name)
@@ -299,7 +307,8 @@ module _ {W P E O M R T : Type 0} (rules : Rules P E O M R T) (see : Sight W R T
           reports_are = no_reports;
           few = omega (arith, ap length no_reports);
           others = λ o h.
-              absurd (subst (λ (x : List (List ℕ × List (Entry E O M))). IsIn o x) (l.olds ∙ first.olds)
+              absurd (subst (λ (x : List (List ℕ × List (Entry E O M))). IsIn o x)
+              (l.olds ∙ first.olds)
               h);
           names = tt;
           name = l.name ∙ first.name;
@@ -315,8 +324,10 @@ module _ {W P E O M R T : Type 0} (rules : Rules P E O M R T) (see : Sight W R T
       no_fault e = cc (e)
 
   -- one more was taken in
-  pub gathered-more : (may : M → E → O → M → Type 0) → GoesOn rules may → (v u w : View E O M) (olds : List W)
-      (before jobs : List (JobValue W P E O M)) (job : JobValue W P E O M) (wires more_wires : List W)
+  pub gathered-more : (may : M → E → O → M → Type 0) → GoesOn rules may → (v u w : View E O M)
+      (olds : List W)
+      (before jobs : List (JobValue W P E O M)) (job : JobValue W P E O M)
+      (wires more_wires : List W)
       (reports more_reports : List P) (old new : Flags)
       → rules.begins hall.start → IsLegal may hall.start w.seen → most ≤ 2 ^ 32 - 1
       → new ≡ record {
@@ -328,7 +339,8 @@ module _ {W P E O M R T : Type 0} (rules : Rules P E O M R T) (see : Sight W R T
       → more_reports ≡ reports ++ job.worked.reports.items
       → GatheredSoFar v u olds before wires reports old
       → GatheredSoFar v w olds jobs more_wires more_reports new
-  gathered-more may goes_on v u w olds before jobs job wires more_wires reports more_reports old new shut
+  gathered-more may goes_on v u w olds before jobs job wires more_wires reports more_reports old
+      new shut
       legal small flags_are joins is wires_are reports_are h =
       subst₂ (λ x y. GatheredSoFar v w olds jobs x y new) (sym wires_are) (sym reports_are)
       (next h.rest h.made h.are h.were_made ran gathers)
@@ -351,7 +363,8 @@ module _ {W P E O M R T : Type 0} (rules : Rules P E O M R T) (see : Sight W R T
       gathers : Gathers rules see hall.start most u (option_to_list (seat_name job.seat)
           ++ seat_names (reverse jobs)) h.done wires reports old
       gathers =
-          subst (λ l. Gathers rules see hall.start most u (seat_names l) h.done wires reports old) prefix
+          subst (λ l. Gathers rules see hall.start most u
+          (seat_names l) h.done wires reports old) prefix
           h.gathers
 
       up : Stays job.worked.memory new.memory
@@ -384,9 +397,11 @@ module _ {W P E O M R T : Type 0} (rules : Rules P E O M R T) (see : Sight W R T
             subst (λ x. Gathers rules see hall.start most w (seat_names (reverse jobs))
             (h.done ++ x ∷ []) (wires ++ job.wire ∷ []) (reports ++ job.worked.reports.items) new)
             m.2.wire_is
-            (gathers-more rules may see hall.start most goes_on u w shut legal small old new job memory fault
+            (gathers-more rules may see hall.start most goes_on u w shut legal small old new job
+            memory fault
             wire (seat_names (reverse jobs)) h.done wires reports one.who one.wire g m.2.who_is
-            (adds rules may see hall most goes_on u w new one job shut legal up failed m.0 h.view first
+            (adds rules may see hall most goes_on u w new one job shut legal up failed m.0 h.view
+            first
             (length h.done) m.2 r.0 joins));
       }
 
@@ -401,7 +416,8 @@ module _ {W P E O M R T : Type 0} (rules : Rules P E O M R T) (see : Sight W R T
     where
       gathers : Gathers rules see hall.start most w [] h.done wires reports flags
       gathers =
-          subst (λ l. Gathers rules see hall.start most w (seat_names (reverse l)) h.done wires reports
+          subst (λ l. Gathers rules see hall.start most w (seat_names
+          (reverse l)) h.done wires reports
           flags) none h.gathers
 
       all : (rest : List W) (made : List (JobValue W P E O M)) → olds ≡ h.done ++ rest

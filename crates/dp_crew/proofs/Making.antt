@@ -15,7 +15,8 @@ use Rattle.dp_crew.specs.Jobs.{JobValue, MadeSeat, MadeJobs, WorksOnSeat, RanJob
 -- ---- making
 
 -- the last wires were taken, and their jobs were made
-pub record MadeSoFar {W P E O M : Type 0} (hall : HallValue M) (v w : View E O M) (wires left : List W)
+pub record MadeSoFar {W P E O M : Type 0} (hall : HallValue M) (v w : View E O M)
+    (wires left : List W)
     (jobs : List (JobValue W P E O M)) : Type 0 where
   pub done : List W
   pub are : wires ≡ left ++ done
@@ -23,7 +24,8 @@ pub record MadeSoFar {W P E O M : Type 0} (hall : HallValue M) (v w : View E O M
 
 -- ---- running
 
-module _ {W P E O M R T : Type 0} (rules : Rules P E O M R T) (see : Sight W R T) (hall : HallValue M) (most : ℕ) where
+module _ {W P E O M R T : Type 0} (rules : Rules P E O M R T) (see : Sight W R T)
+    (hall : HallValue M) (most : ℕ) where
   -- each job ran, if the job at each place did
   pub ran-each : (olds news : List (JobValue W P E O M)) → length news ≡ length olds
       → ((i : ℕ) (d : JobValue W P E O M) → i < length olds
@@ -81,7 +83,8 @@ module _ {W P E O M R T : Type 0} (rules : Rules P E O M R T) (see : Sight W R T
 
 -- ---- of the jobs that were made
 
-made-seat : {P E O M : Type 0} (hall : HallValue M) (v w : View E O M) (worked : Worked P) (seat : Option (SeatValue E O M))
+made-seat : {P E O M : Type 0} (hall : HallValue M) (v w : View E O M) (worked : Worked P)
+    (seat : Option (SeatValue E O M))
     → MadeSeat hall v w seat worked → IfSome seat (IsOf hall)
 made-seat hall v w worked None h = tt
 made-seat hall v w worked (Some seat) h = h.0

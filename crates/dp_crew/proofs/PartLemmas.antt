@@ -73,7 +73,8 @@ module _ {W P E O M R T : Type 0} (rules : Rules P E O M R T) (may : M → E →
       faults (inr f) = inr (has f)
 
 -- the acts of a seat that was joined stay where they are
-pub joined-later : {E O M : Type 0} (v w : View E O M) (name : Option (List ℕ)) (acts : List (Entry E O M))
+pub joined-later : {E O M : Type 0} (v w : View E O M) (name : Option (List ℕ)) (acts : List
+    (Entry E O M))
     → ((o : List ℕ × List (Entry E O M)) → IsIn o v.olds → IsIn o w.olds)
     → HasJoined v name acts → HasJoined w name acts
 joined-later v w None acts kept h = h
@@ -82,7 +83,8 @@ joined-later v w (Some name) acts kept h = kept (name, acts) h
 -- ---- what a job adds
 
 -- the job's seat was joined into a seat that was so before and is so now; others are out
-pub record Adds {W P E O M R T : Type 0} (rules : Rules P E O M R T) (see : Sight W R T) (start : M) (most : ℕ) (v w : View E O M)
+pub record Adds {W P E O M R T : Type 0} (rules : Rules P E O M R T) (see : Sight W R T)
+    (start : M) (most : ℕ) (v w : View E O M)
     (flags : Flags) (who : ℕ) (wire : W) (job : JobValue W P E O M) : Type 0 where
   pub part : Part W P E O M R T
   pub wire_is : part.wire ≡ wire
@@ -104,7 +106,8 @@ pub record Adds {W P E O M R T : Type 0} (rules : Rules P E O M R T) (see : Sigh
       → AllBackBut out w
 
 -- the names that a seat made and that acted nothing
-idle : {E O M : Type 0} (o : List ℕ × List (Entry E O M)) (names : List (List ℕ)) → IsIn o (map (λ n. (n, [])) names)
+idle : {E O M : Type 0} (o : List ℕ × List (Entry E O M)) (names : List (List ℕ)) → IsIn o (map
+    (λ n. (n, [])) names)
     → o.1 ≡ []
 idle o [] h = absurd h
 idle o (n ∷ names) (inl e) = ap (λ p. p.1) e
@@ -113,7 +116,8 @@ idle o (n ∷ names) (inr h) = idle o names h
 module _ {W P E O M R T : Type 0} (rules : Rules P E O M R T) (may : M → E → O → M → Type 0)
     (see : Sight W R T) (hall : HallValue M) (most : ℕ) (goes_on : GoesOn rules may)
     (v w : View E O M) (flags : Flags) (old new : JobValue W P E O M)
-    (shut : rules.begins hall.start) (legal : IsLegal may hall.start w.seen) (memory : Stays new.worked.memory flags.memory)
+    (shut : rules.begins hall.start) (legal : IsLegal may hall.start w.seen)
+    (memory : Stays new.worked.memory flags.memory)
     (wire : Stays new.worked.wire flags.wire) where
   -- a job without a seat
   adds-none : w ≡ v → new.seat ≡ None → new.wire ≡ old.wire → new.worked ≡ old.worked
@@ -152,7 +156,8 @@ module _ {W P E O M R T : Type 0} (rules : Rules P E O M R T) (may : M → E →
         each = tt;
         numbers = refl;
         links =
-            subst (λ x. WhereKnown (see.links old.wire) (HandsOver {P = P} {E = E} {O = O} {M = M} []) (see.links x)) (sym same)
+            subst (λ x. WhereKnown (see.links old.wire) (HandsOver {P = P} {E = E} {O = O}
+            {M = M} []) (see.links x)) (sym same)
             (known-none P E O M (see.links old.wire));
         few = omega arith;
         all = inr (inl up);
@@ -194,10 +199,12 @@ module _ {W P E O M R T : Type 0} (rules : Rules P E O M R T) (may : M → E →
         inl (subst (λ b. FaultMatchesWire b (see.faults old.wire) (see.faults new.wire)) e
         works.served.wire)
 
-    work_fits : Fits rules see (left_by hall.start w.seen) most flags.memory flags.wire old.who work_part
+    work_fits : Fits rules see
+        (left_by hall.start w.seen) most flags.memory flags.wire old.who work_part
     work_fits = record {
       each =
-          runs-later rules may see goes_on hall.start after.seen w.seen shut legal join.second old.who works.runs
+          runs-later rules may see goes_on hall.start after.seen w.seen shut legal join.second
+          old.who works.runs
           works.served.each;
       numbers = works.served.numbers;
       links = works.served.links;

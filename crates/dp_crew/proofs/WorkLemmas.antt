@@ -1,8 +1,8 @@
 -- A worker serves one link more.
-use Rattle.std.proofs.Common.{◌≡◌, ◌⊎◌, ℕ, suc, zero, ◌+◌, ◌≤◌, ◌||◌, Bool, true, false, List, []}
+use Rattle.std.proofs.Common.{◌≡◌, ℕ, suc, zero, ◌+◌, ◌||◌, Bool, true, false, List, []}
 use Rattle.std.proofs.Common.{◌∷◌, ◌++◌, map, length, Option, None, Some, refl, sym, ap}
 use Rattle.std.proofs.Common.{subst, ◌∙◌, append-nil, append_assoc, arith}
-use Rattle.std.specs.List.{AllByRecursion, flat_map, list_any, range_with_len}
+use Rattle.std.specs.List.{AllByRecursion, list_any, range_with_len}
 use Rattle.std.proofs.Math.Bool.{or-false}
 use Rattle.std.proofs.lemmas.Grind.{flat_map-append}
 use Rattle.std.proofs.lemmas.List.{map-append}
@@ -10,7 +10,6 @@ use Rattle.std.proofs.lemmas.List.Folds.{list_any-append}
 use Rattle.dp_hall.specs.declared.view.Entry.{Entry}
 use Rattle.dp_hall.specs.declared.view.View.{View}
 use Rattle.dp_hall.specs.Logs.{IsLegal, left_by}
-use Rattle.dp_hall.specs.Laws.{Continues}
 use Rattle.dp_wire.specs.Links.{Links, HandsOut, WhereKnown}
 use Rattle.dp_crew.specs.declared.service.Served.{Served}
 use Rattle.dp_crew.specs.declared.worked.Worked.{Worked}
@@ -59,7 +58,8 @@ module _ {P E O M R T : Type 0} where
     came =
         h.came
         ∙ ap (λ l. map (λ (r : LinkRun P E O M R T). r.given) runs ++ l) out.next
-        ∙ sym (append_assoc (map (λ (r : LinkRun P E O M R T). r.given) runs) (run.given ∷ []) c.to_come)
+        ∙ sym (append_assoc (map (λ (r : LinkRun P E O M R T). r.given) runs)
+        (run.given ∷ []) c.to_come)
         ∙ ap (λ l. l ++ c.to_come)
         (sym (map-append (λ (r : LinkRun P E O M R T). r.given) runs (run ∷ [])))
         ∙ ap (λ (l : Links R T). map (λ (r : LinkRun P E O M R T). r.given) (runs ++ run ∷ [])
@@ -79,7 +79,8 @@ module _ {P E O M R T : Type 0} where
         (sym (map-append (λ (r : LinkRun P E O M R T). r.back) runs (run ∷ [])));
   }
 
-  known-more : (runs : List (LinkRun P E O M R T)) (run : LinkRun P E O M R T) (a b c d : Option (Links R T))
+  known-more : (runs : List (LinkRun P E O M R T)) (run : LinkRun P E O M R T) (a b c d : Option
+      (Links R T))
       → WhereKnown a (HandsOver runs) b → WhereKnown b (λ x y. HandsOut x run.given y) c
       → WhereKnown c (λ x y. y ≡ record x { back = x.back ++ run.back ∷ [] }) d
       → WhereKnown a (HandsOver (runs ++ run ∷ [])) d

@@ -51,7 +51,8 @@ pub record Gathers {W P E O M R T : Type 0} (rules : Rules P E O M R T) (see : S
       → (part : Part W P E O M R T) × IsIn part parts × HasFailed see flags.wire part
 
 -- the seat of a job, if it has one, was joined into another
-abbrev pub JoinsSeat : {E O M : Type 0} → View E O M → Option (SeatValue E O M) → View E O M → Type 0
+abbrev pub JoinsSeat : {E O M : Type 0} → View E O M → Option (SeatValue E O M) → View E O M
+    → Type 0
 JoinsSeat v None w = w ≡ v
 JoinsSeat v (Some seat) w = JoinsInto v seat.view w
 

@@ -43,7 +43,8 @@ pub trait Service<M: Machine, R, T> {
         requires of { IsOf (hall self.now) seat.old }
         requires begins { rules.begins (hall self.now).start }
         ensures of { IsOf (hall self.now) seat.new }
-        ensures serves { ServesLink rules (left_by (hall self.now).start seat.new.view.seen) who link
+        ensures serves { ServesLink rules
+            (left_by (hall self.now).start seat.new.view.seen) who link
             seat.old.view seat.new.view (rx, tx) result };
 
     /// A law: what is told of a link is so of each longer log.

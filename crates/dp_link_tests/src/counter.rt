@@ -1,11 +1,11 @@
 //! A machine that adds bytes, and a service whose links say the bytes.
 
-ghost use Rattle.std.specs.Prelude.{◌≡◌, ◌<◌, ◌≤◌, ℕ, Result, length};
+ghost use Rattle.std.specs.Prelude.{◌≡◌, ◌+◌, ◌<◌, ◌≤◌, ◌||◌, ℕ, Result, length};
 ghost use Rattle.std.specs.declared.alloc.AllocError.{AllocError};
 ghost use Rattle.dp_hall.specs.declared.view.View.{View};
 ghost use Rattle.dp_hall.specs.Calls.{IsOf};
 ghost use Rattle.dp_link_tests.specs.declared.counter.Counter.{Counter as Count};
-ghost use Rattle.dp_link_tests.specs.Counting.{Adds};
+ghost use Rattle.dp_link_tests.specs.Counting.{Adds, ran_out};
 
 use dp_crew::{Crew, Ran, Served, Service, crews_add_up, run_crew};
 use dp_hall::{Hall, HallError, Machine, Seat, calls_add_up, seats_come_back};
@@ -151,8 +151,18 @@ fn add_one<W: Wait>(rt: &W, hall: &Hall<Counter>, seat: &mut Seat<Counter>, byte
         → Adds v far.new.count far.new.memory seat.new.view }
 {
     calls_add_up::<u8, Result<u64, AllocError>, Counter>();
+    let outcome = hall.act(rt, seat, &byte);
+    note(far, outcome);
+}
+
+/// Notes what came of a byte.
+fn note(far: &mut Far, outcome: Result<u64, AllocError>)
+    requires { far.old.count < 1000 }
+    ensures count { far.new.count ≡ far.old.count + 1 }
+    ensures memory { far.new.memory ≡ ran_out outcome || far.old.memory }
+{
     far.count += 1;
-    match hall.act(rt, seat, &byte) {
+    match outcome {
         Ok(sum) => far.sum = sum,
         Err(AllocError) => far.memory = true,
     }

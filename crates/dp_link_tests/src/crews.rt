@@ -18,8 +18,8 @@ fn wire(rt: &impl Abort, alloc: Global, says: &[&[u8]]) -> MemWire {
     MemWire::new(links, Vec::new(alloc))
 }
 
-/// Two workers, with two links and one: each byte is in the journal, those of a wire in the order in
-/// which they were said, and each link has its report.
+/// Two workers, with two links and one: each byte is in the journal, those of a wire in the order
+/// in which they were said, and each link has its report.
 #[test]
 fn two_workers_add(rt: HostRuntime) {
     let alloc = rt.alloc();

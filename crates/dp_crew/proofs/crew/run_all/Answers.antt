@@ -1,4 +1,17 @@
-use Rattle.std.proofs.Common.{All, IfSome, List, ◌≡◌, ◌++◌, ◌∙◌, arith, drop, length, subst, subst₂, sym}
+use Rattle.std.proofs.Common.{
+  All,
+  IfSome,
+  List,
+  ◌≡◌,
+  ◌++◌,
+  ◌∙◌,
+  arith,
+  drop,
+  length,
+  subst,
+  subst₂,
+  sym,
+}
 use Rattle.std.proofs.Common.{take, ℕ}
 use Rattle.std.proofs.lemmas.List.{take_at}
 use Rattle.dp_hall.specs.Calls.{IsOf}

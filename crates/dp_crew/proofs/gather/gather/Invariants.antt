@@ -21,7 +21,8 @@ invariant-jobs g l =
       jobs : All (λ job. IfSome job.seat (IsOf l.hall)) l.jobs.items;
       wires_room : vec_len l.jobs + vec_len l.wires ≤ vec_capacity l.wires;
       lists_room : vec_len l.jobs + vec_len l.lists ≤ vec_capacity l.lists;
-      gathered : (v : View g.row.M-Event.Denot (Result g.row.M-Reply.Denot AllocError) g.row.M.Denot)
+      gathered : (v : View g.row.M-Event.Denot
+          (Result g.row.M-Reply.Denot AllocError) g.row.M.Denot)
           (olds : List g.row.W.Denot)
           (made : List (JobValue g.row.W.Denot g.row.S-Report.Denot g.row.M-Event.Denot
           (Result g.row.M-Reply.Denot AllocError) g.row.M.Denot))

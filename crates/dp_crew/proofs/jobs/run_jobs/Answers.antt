@@ -1,4 +1,4 @@
-use denote.Param.Send.{param_sync, sendable, struct_sync}
+use denote.Param.Send.{param_sync, sendable}
 use Rattle.std.proofs.Common.{get_or}
 use Rattle.std.proofs.Crossing.{sync}
 use Rattle.dp_crew.specs.Runs.{most_links}

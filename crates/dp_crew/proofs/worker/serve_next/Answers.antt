@@ -1,4 +1,4 @@
-use Rattle.std.proofs.Common.{◌∙◌, List, ◌++◌, ◌∷◌, [], ap, refl}
+use Rattle.std.proofs.Common.{◌∙◌, ◌++◌, ◌∷◌, [], ap, refl}
 use Rattle.dp_crew.proofs.SeatLemmas.{seen-legal}
 use Rattle.dp_crew.proofs.WorkLemmas.{served-last, served-more}
 use Rattle.dp_crew.proofs.worker.serve_next.Goals as goal
@@ -25,7 +25,8 @@ returns-in-Ok-Some-clause-serves g c = λ v links count far.
 pub returns-in-Ok-None-clause-serves : goal.returns-in-Ok-None-clause-serves
 returns-in-Ok-None-clause-serves g c = λ v links count far.
     let none = rw c.in-Ok-None.field-0-is at c.in-Ok-None.ensures.links in
-    served-last g.S.Service.rules g.M.Machine.may_step (g.S.Service.hall c.args.service.now).start c.args.who
+    served-last g.S.Service.rules g.M.Machine.may_step
+    (g.S.Service.hall c.args.service.now).start c.args.who
     c.args.link v c.args.seat.now.view links (g.W.Wire.links c.args.wire.now)
     (g.W.Wire.links c.accept.new.self) count (g.W.Wire.faults c.args.wire.now)
     (g.W.Wire.faults c.accept.new.self) c.args.worked.now _ far none
