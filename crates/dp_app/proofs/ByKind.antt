@@ -21,7 +21,7 @@ use Rattle.dp_serve_laws.specs.Reported.{reported}
 use Rattle.dp_words.specs.declared.command_line.CommandLine.TheVariants.{Listen}
 use Rattle.dp_words.specs.declared.command_line.LocalCommand.{LocalCommand}
 use Rattle.dp_words.specs.declared.command_line.Service.{Service}
-use Rattle.dp_worker.specs.declared.report.LinkReport.{LinkReport}
+use Rattle.dp_serve.specs.declared.report.LinkReport.{LinkReport}
 use Rattle.dp_commands.proofs.Leaving.{resumed_sound}
 use Rattle.dp_commands.specs.Answer.{status_of}
 use Rattle.dp_commands.specs.Commands.{Asks, HasWires}

@@ -9,7 +9,7 @@ use Rattle.dp_serve.specs.Closings.{ServesOn}
 use Rattle.dp_serve.specs.Serving.{Left}
 use Rattle.dp_serve_laws.specs.Acts.{KeepsActs}
 use Rattle.dp_serve_laws.specs.Stored.{HoldRows, IsResumed}
-use Rattle.dp_worker.specs.declared.report.LinkReport.{LinkReport}
+use Rattle.dp_serve.specs.declared.report.LinkReport.{LinkReport}
 use Rattle.dp_commands.specs.Commands.{AskForLocal, HasLink, HasWires}
 use Rattle.dp_commands.specs.declared.ending.Ending.{Ending}
 use Rattle.dp_commands.specs.Endings.{Effects, KeepsNothing, Wires, served_wires}

@@ -7,8 +7,8 @@ use Rattle.dp_epochs.specs.declared.event.ShutAt.{ShutAt}
 use Rattle.dp_script.specs.Counters.{Counters, NothingIsDrawn}
 use Rattle.dp_serve.specs.Serving.{Seen}
 use Rattle.dp_wire.specs.Links.{Links}
-use Rattle.dp_worker.specs.declared.report.LinkReport.{LinkReport}
-use Rattle.dp_worker.specs.Links.{link_seen}
+use Rattle.dp_serve.specs.declared.report.LinkReport.{LinkReport}
+use Rattle.dp_serve.specs.Links.{link_seen}
 use Rattle.dp_lines.specs.declared.run_end.RunEnd.TheVariants.{Memory}
 use Rattle.dp_lines.specs.Hexadecimal.{hex_text}
 use Rattle.dp_commands.specs.declared.ending.Ending.{Ending}

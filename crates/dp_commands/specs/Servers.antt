@@ -7,7 +7,7 @@ use Rattle.dp_epochs.specs.Past.{Past}
 use Rattle.dp_session.specs.declared.resume.ResumeFault.{ResumeFault}
 use Rattle.dp_session.specs.declared.resume.ResumeFault.TheVariants as fault
 use Rattle.dp_session.specs.Resuming.{resumed, IsBad, CountsFault}
-use Rattle.dp_worker.specs.Works.{most_links}
+use Rattle.dp_crew.specs.Runs.{most_links}
 use Rattle.dp_serve.specs.Closings.{ServesOn}
 use Rattle.dp_commands.specs.declared.ending.Ending.{Ending}
 use Rattle.dp_commands.specs.declared.ending.Ending.TheVariants.{NoWords, Run, StoreFault, BadRow}

@@ -1,7 +1,5 @@
-pub mod ReportLemmas
 pub mod Sending
-pub mod Making
-pub mod PartLemmas
-pub mod GatherLemmas
+pub mod FlagLemmas
+pub mod LinkLemmas
 pub mod ServeLemmas
 pub mod ClosingLemmas

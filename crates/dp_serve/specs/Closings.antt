@@ -2,13 +2,15 @@
 use Rattle.std.specs.Prelude.{◌≡◌, ℕ, ◌+◌, ◌-◌, ◌||◌, is_some, Option, None, Some, MatchBool}
 use Rattle.std.specs.Prelude.{List, [], ◌∷◌, length}
 use Rattle.std.specs.List.{filter, range_with_len}
+use Rattle.dp_hall.specs.Calls.{Closes}
+use Rattle.dp_link.specs.Acts.{SeatView}
 use Rattle.dp_epochs.specs.declared.connection.Connection.{Connection}
 use Rattle.dp_epochs.specs.declared.event.Event.TheVariants.{Close}
 use Rattle.dp_epochs.specs.State.{open_in}
 use Rattle.dp_epochs.specs.Past.{Past, Step, state_of}
 use Rattle.dp_session_laws.specs.Logs.{ReplyOrMemory}
 use Rattle.dp_session_laws.specs.Journals.{is_kept}
-use Rattle.dp_worker.specs.Serving.{is_last_failed, is_last_store_fault}
+use Rattle.dp_serve.specs.Talking.{is_last_failed, is_last_store_fault}
 use Rattle.dp_serve.specs.Serving.{Seen, Left, Serves}
 
 -- the numbers above this one of the connections that are open among these, rising
@@ -43,3 +45,13 @@ pub record ServesOn {W R T : Type 0} (see : Seen W R T) (start : Past) (most : �
     memory = rest.memory || is_last_failed refusal;
     store = rest.store || is_last_store_fault refusal;
   }
+
+-- what closing the hall left
+pub record ClosesTo (start : Past) (v : SeatView) (left : Left) : Type 0 where
+  pub last : Past
+  pub closes : Closes Step start v last
+  pub journal : left.journal ≡ last.journal
+  pub shut : left.shut ≡ last.shut
+  pub known : left.known ≡ last.known
+  pub count : left.count ≡ last.count
+  pub read_faults : left.read_faults ≡ last.read_faults

@@ -1,5 +1,5 @@
-pub mod Reports
+pub mod Links
+pub mod Talking
+pub mod Works
 pub mod Serving
 pub mod Closings
-pub mod Jobs
-pub mod Gathering

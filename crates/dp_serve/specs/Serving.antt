@@ -1,20 +1,22 @@
 -- What the server of a session does, worker by worker.
-use Rattle.std.specs.Prelude.{◌≡◌, ◌⊎◌, ℕ, ◌+◌, ◌≤◌, Bool, true, List, [], ◌∷◌, ◌++◌, length, map}
-use Rattle.std.specs.Prelude.{Option, None, Some, ⊤, option_to_list}
-use Rattle.std.specs.List.{AllByRecursion, flat_map, list_any, range_with_len}
-use Rattle.dp_io.specs.Faults.{Rose}
+use Rattle.std.specs.Prelude.{◌≡◌, ℕ, Bool, true, List, ◌++◌, map}
+use Rattle.std.specs.Prelude.{Option}
+use Rattle.std.specs.List.{list_any}
 use Rattle.dp_keeper.specs.declared.row.Row.{Row}
-use Rattle.dp_wire.specs.Links.{Links, WhereKnown}
-use Rattle.dp_hall.specs.Logs.{left_by, entries_by}
+use Rattle.dp_wire.specs.Links.{Links}
+use Rattle.dp_hall.specs.Logs.{left_by}
 use Rattle.dp_hall.specs.Names.{IsIn, AreDistinct}
 use Rattle.dp_epochs.specs.declared.event.Event.{Event}
 use Rattle.dp_epochs.specs.declared.event.ShutAt.{ShutAt}
 use Rattle.dp_epochs.specs.Past.{Past}
-use Rattle.dp_session_laws.specs.Logs.{LogEntry, IsSessionLog}
+use Rattle.dp_session_laws.specs.Logs.{LogEntry, ReplyOrMemory, IsSessionLog}
 use Rattle.dp_session_laws.specs.Journals.{kept_events}
-use Rattle.dp_worker.specs.declared.report.LinkReport.{LinkReport}
-use Rattle.dp_worker.specs.Links.{LinkState, has_store_fault}
-use Rattle.dp_worker.specs.Works.{LinkRun, IsRun, HandsOver, NoneToCome, acts_of, run_ran_out}
+use Rattle.dp_crew.specs.Runs.{acts_of}
+use Rattle.dp_crew.specs.Parts.{EachFrom, names_of, reports_of}
+use Rattle.dp_crew.specs.Parts as crew
+use Rattle.dp_serve.specs.declared.report.LinkReport.{LinkReport}
+use Rattle.dp_serve.specs.Links.{LinkState, has_store_fault}
+use Rattle.dp_serve.specs.Works.{session_rules}
 
 -- what contracts see of a wire: its links, if they are known, how often it has failed, and the
 -- state of each link
@@ -25,58 +27,30 @@ pub record Seen (W R T : Type 0) : Type 0 where
 
 -- A worker's part: its wire as it was and as it is, the name of its seat, and the links that it
 -- served. It has no seat if none could be made for it.
-pub record Part (W R T : Type 0) : Type 0 where
-  pub wire : W
-  pub now : W
-  pub name : Option (List ℕ)
-  pub runs : List (LinkRun R T)
-
--- the acts of a log by the seat of this name, if there is one
-abbrev pub acts_by : Option (List ℕ) → List LogEntry → List LogEntry
-acts_by None log = []
-acts_by (Some name) log = entries_by name log
+abbrev pub Part : Type 0 → Type 0 → Type 0 → Type 0
+Part W R T = crew.Part W LinkReport Event ReplyOrMemory Past R T
 
 module _ {W R T : Type 0} where
+  -- what is seen of a wire beside the states of its links
+  abbrev pub sight : Seen W R T → crew.Sight W R T
+  sight see = record { links = see.links; faults = see.faults }
+
   -- the wire failed in this part, and it was noted
   abbrev pub HasFailed : Seen W R T → Bool → Part W R T → Type 0
-  HasFailed see noted part =
-      Rose (see.faults part.wire) (see.faults part.now) × (noted ≡ true)
+  HasFailed see noted part = crew.HasFailed (sight see) noted part
 
   -- The part of the worker of this number, by the session that was left. Each link went as its
   -- report tells. It served `most` links or all that were to come, unless memory ran out or its
   -- wire failed.
-  pub record Fits (see : Seen W R T) (last : Past) (most : ℕ) (memory wire : Bool) (who : ℕ)
-      (part : Part W R T) : Type 0 where
-    pub each : AllByRecursion (IsRun see.link last who) part.runs
-    pub numbers : map (λ run. run.report.link) part.runs ≡ range_with_len 0 (length part.runs)
-    pub links : WhereKnown (see.links part.wire) (HandsOver part.runs) (see.links part.now)
-    pub few : length part.runs ≤ most
-    pub all :
-        ((length part.runs ≡ most) ⊎ NoneToCome (see.links part.wire) (see.links part.now))
-        ⊎ (memory ≡ true)
-        ⊎ HasFailed see wire part
-    pub faults : (see.faults part.now ≡ see.faults part.wire) ⊎ HasFailed see wire part
-    pub ran_out : list_any run_ran_out part.runs ≡ true → memory ≡ true
+  abbrev pub Fits : Seen W R T → Past → ℕ → Bool → Bool → ℕ → Part W R T → Type 0
+  Fits see last most memory wire who part =
+      crew.Fits (session_rules see.link) (sight see) last most memory wire who part
 
   -- its part fits, and the acts of its seat in the log are those of its links, in order and no
   -- others
   abbrev pub IsPart : Seen W R T → Past → List LogEntry → ℕ → Bool → Bool → ℕ → Part W R T → Type 0
   IsPart see last log most memory wire who part =
-      Fits see last most memory wire who part
-      × (acts_by part.name log ≡ acts_of part.runs)
-
-  -- so is each of the parts, numbered from this number on
-  abbrev pub EachFrom : (ℕ → Part W R T → Type 0) → ℕ → List (Part W R T) → Type 0
-  EachFrom P who [] = ⊤
-  EachFrom P who (part ∷ parts) = P who part × EachFrom P (who + 1) parts
-
-  -- the reports of the parts, one part after another
-  abbrev pub reports_of : List (Part W R T) → List LinkReport
-  reports_of parts = flat_map (λ part. map (λ run. run.report) part.runs) parts
-
-  -- the names of the seats
-  abbrev pub names_of : List (Part W R T) → List (List ℕ)
-  names_of parts = flat_map (λ part. option_to_list part.name) parts
+      crew.IsPart (session_rules see.link) (sight see) last log most memory wire who part
 
 -- what serving left beside the wires
 pub record Left : Type 0 where

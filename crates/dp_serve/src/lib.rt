@@ -1,15 +1,15 @@
 //! The server of a session: workers that serve the links of their wires at the same time, each on a
 //! seat of one hall.
 //!
-//! The rule: docs/protocol.md, "The server".
+//! The rules: docs/protocol.md, "The server" and "Links of the server".
 #![tactic(auto)]
 
 mod closings;
-mod gather;
-mod jobs;
-mod reports;
+mod link;
+mod pumps;
+mod report;
 mod server;
+mod service;
 
-pub use dp_worker::LinkReport;
-pub use reports::Reports;
-pub use server::{Served, serve};
+pub use report::LinkReport;
+pub use server::{Reports, Served, serve};

@@ -1,30 +1,29 @@
 //! Serving a session.
 
-ghost use Rattle.std.specs.Prelude.{◌≡◌, ◌<◌, ◌≤◌, ◌^◌, [], length, true, false};
-ghost use Rattle.std.specs.Prelude.{vec_len, vec_capacity};
+ghost use Rattle.std.specs.Prelude.{◌≡◌, ◌≤◌, [], length, true, false};
 ghost use Rattle.dp_hall.specs.Calls.{IsOf, IsAlone};
 ghost use Rattle.dp_epochs.specs.Laws.{ShutBefore};
-ghost use Rattle.dp_worker.specs.Links.{link_seen};
-ghost use Rattle.dp_worker.specs.Works.{most_links};
+ghost use Rattle.dp_crew.specs.Runs.{most_links};
+ghost use Rattle.dp_serve.specs.Links.{link_seen};
 ghost use Rattle.dp_serve.specs.Serving.{Serves};
-ghost use Rattle.dp_serve.specs.Closings.{ServesOn};
-ghost use Rattle.dp_serve.specs.Gathering.{Gathers, IsFirst, ClosesTo};
-ghost use Rattle.dp_serve.specs.Reports.{all_reports};
+ghost use Rattle.dp_serve.specs.Closings.{ServesOn, ClosesTo};
 
-use crate::Reports;
+use crate::LinkReport;
 use crate::closings::{broke, close_open, ran_out};
-use crate::gather::{Flags, gather};
-use crate::jobs::{Crew, Job, make_jobs, run_jobs};
+use crate::service::Links;
+use dp_crew::{Crew, Flags, Ran, crews_add_up, run_crew};
 use dp_epochs::{Journal, Shut};
 use dp_hall::{Hall, HallError, Seat};
 use dp_keeper::Keeper;
 use dp_session::Session;
-use dp_session_laws::{feeds_go_on, gone_goes_on, journals_are_logs, sessions_go_on};
+use dp_session_laws::journals_are_logs;
 use dp_wire::{Gate, Wire};
-use dp_worker::LinkReport;
 use std::alloc::Global;
 use std::sync::Wait;
 use std::thread::Threads;
+
+/// The reports of all links, by rising worker and then by rising link.
+pub type Reports = dp_crew::Reports<LinkReport>;
 
 /// What serving a session left.
 #[derive(Drop)]
@@ -135,68 +134,25 @@ fn serve_wires<W: Wire + Send, K: Keeper + Send, G: Gate, R: Threads + Wait + Sy
         }) }
 {
     journals_are_logs();
-    sessions_go_on();
-    feeds_go_on();
-    gone_goes_on();
-    let mut wires = wires;
-    let mut jobs = Vec::new(alloc);
-    let mut lists = Vec::new(alloc);
-    let count = wires.len();
-    if jobs.reserve(count).is_err() || lists.reserve(count).is_err() {
-        jobs.destroy_empty();
-        return serve_nothing(alloc, session, wires);
-    }
+    crews_add_up::<W, Session<K>, W::Rx, W::Tx, Links<'_, R, K, G>>();
     match Hall::start(alloc, session) {
         Ok((hall, mut seat)) => {
-            let crew = Crew {
+            let links = Links {
                 rt,
                 alloc,
                 hall: &hall,
                 gate,
             };
-            let flags = run_all(&crew, &mut seat, &mut wires, jobs, &mut lists, conns);
-            finish(hall, seat, wires, lists, flags)
+            let crew = Crew {
+                alloc,
+                hall: &hall,
+                service: &links,
+            };
+            let ran = run_crew(rt, &crew, &mut seat, wires, conns);
+            finish(hall, seat, ran)
         }
-        Err(HallError { machine }) => {
-            jobs.destroy_empty();
-            serve_nothing(alloc, machine, wires)
-        }
+        Err(HallError { machine }) => serve_nothing(alloc, machine, wires),
     }
-}
-
-/// Runs a worker for each wire, and gathers what they did. There is room for their jobs and for
-/// their lists of reports.
-fn run_all<W: Wire + Send, K: Keeper + Send, G: Gate, R: Threads + Wait + Sync>(
-    crew: &Crew<'_, R, K, G>,
-    seat: &mut Seat<Session<K>>,
-    wires: &mut Vec<W>,
-    jobs: Vec<Job<W, K>>,
-    lists: &mut Vec<Vec<LinkReport>>,
-    conns: Option<u32>,
-) -> Flags
-    requires of { IsOf crew.now.hall.now seat.old }
-    requires first { IsFirst seat.old.view }
-    requires start { ShutBefore crew.now.hall.now.start }
-    requires few { length wires.old.items ≤ 64 }
-    requires empty { (jobs.items ≡ []) × (lists.old.items ≡ []) }
-    requires room { (vec_len wires.old ≤ vec_capacity jobs)
-        × (vec_len wires.old ≤ vec_capacity lists.old) }
-    ensures of { IsOf crew.now.hall.now seat.new }
-    ensures gathers { Gathers (record {
-      links = W.links;
-      faults = W.faults;
-      link = link_seen W.Rx.left W.Rx.faults W.Tx.held W.Tx.faults;
-    }) crew.now.hall.now.start (most_links conns) seat.new.view [] wires.old.items
-        wires.new.items (all_reports lists.new.items) result }
-{
-    // Read, so that contracts know its range.
-    let _most = conns.unwrap_or(u32::MAX);
-    let mut jobs = jobs;
-    make_jobs(crew.alloc, crew.hall, seat, wires, &mut jobs);
-    run_jobs(crew.rt, crew.alloc, crew.hall, &mut jobs, conns, crew.gate);
-    let flags = gather(crew.hall, seat, &mut jobs, wires, lists);
-    jobs.destroy_empty();
-    flags
 }
 
 /// What is left if memory ran out before a worker began.
@@ -230,13 +186,10 @@ fn serve_nothing<W: Wire, K: Keeper>(
 fn finish<W: Wire, K: Keeper>(
     hall: Hall<Session<K>>,
     seat: Seat<Session<K>>,
-    wires: Vec<W>,
-    lists: Vec<Vec<LinkReport>>,
-    flags: Flags,
+    ran: Ran<W, LinkReport>,
 ) -> Served<W, K>
     requires of { IsOf hall seat }
     requires alone { IsAlone seat.view }
-    requires count { length (all_reports lists.items) < 2 ^ 64 }
     ensures closes { ClosesTo hall.start seat.view (record {
       journal = result.journal;
       shut = result.shut;
@@ -248,15 +201,20 @@ fn finish<W: Wire, K: Keeper>(
       store = result.store;
       wire = result.wire;
     }) }
-    ensures wires { result.wires.items ≡ wires.items }
-    ensures reports { result.reports ≡ all_reports lists.items }
-    ensures flags { (result.memory ≡ flags.memory) × (result.store ≡ flags.store)
-        × (result.wire ≡ flags.wire) }
+    ensures wires { result.wires.items ≡ ran.wires.items }
+    ensures reports { result.reports ≡ ran.reports }
+    ensures flags { (result.memory ≡ ran.flags.memory) × (result.store ≡ ran.flags.fault)
+        × (result.wire ≡ ran.flags.wire) }
 {
     let (keeper, journal, shut) = hall.close(seat).into_parts();
+    let Ran {
+        wires,
+        reports,
+        flags,
+    } = ran;
     let Flags {
         memory,
-        store,
+        fault,
         wire,
     } = flags;
     Served {
@@ -264,9 +222,9 @@ fn finish<W: Wire, K: Keeper>(
         keeper,
         journal,
         shut,
-        reports: Reports::of(lists),
+        reports,
         memory,
-        store,
+        store: fault,
         wire,
     }
 }

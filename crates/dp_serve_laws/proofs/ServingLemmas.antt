@@ -8,11 +8,13 @@ use Rattle.dp_hall.proofs.ListLemmas.{distinct_both}
 use Rattle.dp_epochs.specs.Past.{Past}
 use Rattle.dp_session_laws.specs.Logs.{LogEntry}
 use Rattle.dp_session_laws.specs.Closings.{given_by, given_out}
-use Rattle.dp_worker.specs.declared.report.LinkReport.{LinkReport}
-use Rattle.dp_worker.specs.Links.{LinkBy, IsLink}
-use Rattle.dp_worker.specs.Works.{LinkRun, IsRun, acts_of}
-use Rattle.dp_serve.specs.Serving.{Seen, Part, Left, Serves, IsPart, EachFrom, acts_by, names_of}
-use Rattle.dp_serve.specs.Serving.{reports_of}
+use Rattle.dp_serve.specs.declared.report.LinkReport.{LinkReport}
+use Rattle.dp_serve.specs.Links.{LinkBy, IsLink}
+use Rattle.dp_crew.specs.Runs.{acts_of}
+use Rattle.dp_serve.specs.Works.{LinkRun, IsRun}
+use Rattle.dp_crew.specs.Parts.{EachFrom, acts_by, names_of}
+use Rattle.dp_serve.specs.Serving.{Seen, Part, Left, Serves, IsPart}
+use Rattle.dp_crew.specs.Parts.{reports_of}
 use Rattle.dp_serve_laws.specs.Acts.{is_about, acts_about}
 use Rattle.dp_serve_laws.specs.Reported.{reported, runs_of}
 use Rattle.dp_serve_laws.proofs.ListLemmas.{all-in, option-is, option-in, option-distinct, in-flat}

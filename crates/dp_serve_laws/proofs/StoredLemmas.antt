@@ -32,9 +32,11 @@ use Rattle.dp_session_laws.proofs.Growth.{EpochLaws}
 use Rattle.dp_session_laws.proofs.JournalLemmas.{Sound, Same, First, sound-step, broken-log}
 use Rattle.dp_session_laws.proofs.JournalLemmas.{log-adds}
 use Rattle.dp_session_laws.proofs.Replies.{log-answers}
-use Rattle.dp_worker.specs.declared.report.LinkReport.{LinkReport}
-use Rattle.dp_worker.specs.Works.{LinkRun, IsRun, acts_of}
-use Rattle.dp_serve.specs.Serving.{Seen, Part, Left, Serves, acts_by}
+use Rattle.dp_serve.specs.declared.report.LinkReport.{LinkReport}
+use Rattle.dp_crew.specs.Runs.{acts_of}
+use Rattle.dp_serve.specs.Works.{LinkRun, IsRun}
+use Rattle.dp_crew.specs.Parts.{acts_by}
+use Rattle.dp_serve.specs.Serving.{Seen, Part, Left, Serves}
 use Rattle.dp_serve.specs.Closings.{ServesOn, open_numbers}
 use Rattle.dp_serve_laws.specs.Acts.{acts_about, events_about, events_of, is_about, is_of}
 use Rattle.dp_serve_laws.specs.Acts.{KeepsActs}

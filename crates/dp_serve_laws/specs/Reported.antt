@@ -1,8 +1,8 @@
 -- The links that were served, and the connections that their reports name.
 use Rattle.std.specs.Prelude.{ℕ, List}
 use Rattle.std.specs.List.{filter_map, flat_map}
-use Rattle.dp_worker.specs.declared.report.LinkReport.{LinkReport}
-use Rattle.dp_worker.specs.Works.{LinkRun}
+use Rattle.dp_serve.specs.declared.report.LinkReport.{LinkReport}
+use Rattle.dp_serve.specs.Works.{LinkRun}
 use Rattle.dp_serve.specs.Serving.{Part}
 
 -- the connections that reports name, in their order

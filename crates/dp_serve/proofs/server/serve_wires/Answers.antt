@@ -1,49 +1,48 @@
-use Rattle.std.proofs.Common.{◌∙◌, ap, subst, sym}
-use Rattle.dp_hall.proofs.LawLemmas.{back-close}
+use Rattle.std.proofs.Common.{◌∙◌, ap, refl, subst, sym}
 use Rattle.dp_epochs.specs.Laws.{ShutBefore}
 use Rattle.dp_epochs.specs.Past.{Past}
-use Rattle.dp_worker.proofs.LinkLemmas.{FeedLaws}
-use Rattle.dp_serve.specs.Reports.{all_reports}
-use Rattle.dp_serve.proofs.ServeLemmas.{serves-of, serves-nothing}
+use Rattle.dp_serve.proofs.ServeLemmas.{serves-of}
 use Rattle.dp_serve.proofs.server.serve_wires.Goals as goal
 
-pub returns-then-is_err : goal.returns-then-is_err
-returns-then-is_err g c =
-    let n = c.serve_nothing.ensures in
-    serves-nothing _ c.args.session _ c.args.wires.items c.serve_nothing.result.wires.items _
-    n.wires n.parts.3 n.parts.4 n.parts.0 n.parts.1 n.parts.2 n.reports n.flags.0 n.flags.1
-    n.flags.2
-
-pub run_all-flags-requires-clause-start : goal.run_all-flags-requires-clause-start
-run_all-flags-requires-clause-start g c κs within =
+pub run_crew-ran-requires-clause-begins : goal.run_crew-ran-requires-clause-begins
+run_crew-ran-requires-clause-begins g c κs within =
     subst ShutBefore (sym c.in-Ok.ensures.start) c.requires.sound
 
 pub finish-requires-clause-alone : goal.finish-requires-clause-alone
 finish-requires-clause-alone g c κs within =
-    let h = c.run_all-flags.ensures.gathers in
-    back-close c.run_all-flags.new.seat.view h.name h.back
+    c.crews_add_up.ensures.alone _ c.in-Ok.hall.start _ c.run_crew-ran.new.seat.view
+    c.args.wires.items c.run_crew-ran.result.wires.items c.run_crew-ran.result.reports
+    c.run_crew-ran.result.flags c.run_crew-ran.ensures.gathers
 
 pub returns-in-Ok : goal.returns-in-Ok
 returns-in-Ok g c =
-    let laws : FeedLaws = record {
-      grows = c.sessions_go_on.ensures.grows;
-      feeds = c.feeds_go_on.ensures;
-      gone = c.gone_goes_on.ensures;
-    } in
+    let start = c.in-Ok.hall.start in
+    let ran = c.run_crew-ran in
     let done = c.finish.ensures in
-    let all = c.run_all-flags in
-    serves-of _ c.in-Ok.hall.start _ laws c.journals_are_logs.ensures
-    (subst ShutBefore (sym c.in-Ok.ensures.start) c.requires.sound) c.args.session
-    all.new.seat.view c.args.wires.items all.new.wires.items c.finish.result.wires.items
-    (all_reports all.new.lists.items) all.result _ c.in-Ok.ensures.start done.wires
-    all.ensures.gathers done.closes done.reports done.flags.0 done.flags.1 done.flags.2
+    let closed = done.closes in
+    let all = c.crews_add_up.ensures.closed _ start closed.last _ ran.new.seat.view
+    c.args.wires.items ran.result.wires.items ran.result.reports ran.result.flags
+    (subst ShutBefore (sym c.in-Ok.ensures.start) c.requires.sound) ran.ensures.gathers
+    closed.closes in
+    serves-of _ start _ c.journals_are_logs.ensures c.args.session closed.last c.args.wires.items
+    ran.result.wires.items c.finish.result.wires.items ran.result.reports ran.result.flags _
+    c.in-Ok.ensures.start done.wires all closed.journal closed.shut closed.known closed.count
+    closed.read_faults done.reports done.flags.0 done.flags.1 done.flags.2
 
 pub returns-in-Err : goal.returns-in-Err
 returns-in-Err g c =
-    let n = c.serve_nothing-in-Err.ensures in
+    let n = c.serve_nothing.ensures in
     let is = c.in-Err.ensures.err in
-    serves-nothing _ c.args.session _ c.args.wires.items c.serve_nothing-in-Err.result.wires.items
-    _ n.wires (n.parts.3 ∙ ap (λ (p : Past). p.journal) is)
+    let none = c.crews_add_up.ensures.nothing _ c.args.session _ c.args.wires.items
+    (record {
+      memory = c.serve_nothing.result.memory;
+      fault = c.serve_nothing.result.store;
+      wire = c.serve_nothing.result.wire;
+    }) n.flags.0 n.flags.1 n.flags.2 in
+    serves-of _ c.args.session _ c.journals_are_logs.ensures c.args.session c.args.session
+    c.args.wires.items c.args.wires.items c.serve_nothing.result.wires.items _ _ _
+    refl n.wires none
+    (n.parts.3 ∙ ap (λ (p : Past). p.journal) is)
     (n.parts.4 ∙ ap (λ (p : Past). p.shut) is) (n.parts.0 ∙ ap (λ (p : Past). p.known) is)
     (n.parts.1 ∙ ap (λ (p : Past). p.count) is)
-    (n.parts.2 ∙ ap (λ (p : Past). p.read_faults) is) n.reports n.flags.0 n.flags.1 n.flags.2
+    (n.parts.2 ∙ ap (λ (p : Past). p.read_faults) is) n.reports refl refl refl

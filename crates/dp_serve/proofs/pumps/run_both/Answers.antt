@@ -1,0 +1,14 @@
+use denote.Param.{param}
+use denote.Param.Send.{sendable}
+use Rattle.std.proofs.Crossing.{crosses}
+use Rattle.dp_serve.proofs.Sending.{session_hall_sync, session_seat_send}
+use Rattle.dp_serve.proofs.pumps.run_both.Goals as goal
+
+pub join_mut-requires-send-F : goal.join_mut-requires-send-F
+join_mut-requires-send-F g c κs within =
+    let hall = session_hall_sync (param 1 g.row.K) g.K.Keeper c.type_bounds.send-K in
+    let seat = session_seat_send (param 1 g.row.K) g.K.Keeper c.type_bounds.send-K in
+    let rt = c.type_bounds.sync-W in
+    let sink = c.type_bounds.send-S in
+    let gate = c.type_bounds.sync-G in
+    search (sendable, crosses) depth 20

@@ -1,6 +1,0 @@
-use Rattle.std.proofs.Common.{◌≡◌, length, take}
-use Rattle.dp_serve.specs.Reports.{all_reports}
-use Rattle.dp_serve.proofs.reports.Reports.len.Given as goal
-
-abbrev pub invariant-loop-list : goal.invariant-loop-list
-invariant-loop-list l = l.count ≡ length (all_reports (take l.list-index l.list-items))

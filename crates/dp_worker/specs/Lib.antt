@@ -1,4 +1,0 @@
-pub mod Links
-pub mod Seats
-pub mod Works
-pub mod Serving
