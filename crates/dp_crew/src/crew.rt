@@ -50,6 +50,7 @@ pub fn run_crew<
     wires: Vec<W>,
     conns: Option<u32>,
 ) -> Ran<W, S::Report>
+    requires ready { S.ready crew.now.service.now }
     requires same { S.hall crew.now.service.now ≡ crew.now.hall.now }
     requires of { IsOf crew.now.hall.now seat.old }
     requires first { IsFirst seat.old.view }
@@ -103,6 +104,7 @@ fn run_all<
     lists: &mut Vec<Vec<S::Report>>,
     conns: Option<u32>,
 ) -> Flags
+    requires ready { S.ready crew.now.service.now }
     requires same { S.hall crew.now.service.now ≡ crew.now.hall.now }
     requires of { IsOf crew.now.hall.now seat.old }
     requires first { IsFirst seat.old.view }

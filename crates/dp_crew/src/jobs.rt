@@ -91,6 +91,7 @@ pub(crate) fn run_jobs<
     S: Service<M, W::Rx, W::Tx, Report: Send> + Sync,
     R: Threads + Sync,
 >(rt: &R, alloc: Global, service: &S, jobs: &mut [Job<W, M, S::Report>], conns: Option<u32>)
+    requires ready { S.ready service.now }
     requires of { All (λ job. IfSome job.seat (IsOf (S.hall service.now))) jobs.old }
     requires begins { S.rules.begins (S.hall service.now).start }
     ensures { RanJobs S.rules (record { links = W.links; faults = W.faults }) (S.hall service.now)
@@ -106,7 +107,7 @@ pub(crate) fn run_jobs<
         threads,
         &|_, job: &mut Job<W, M, S::Report>|
             requires { IfSome job.now.seat (IsOf (S.hall service.now))
-                × S.rules.begins (S.hall service.now).start }
+                × S.rules.begins (S.hall service.now).start × S.ready service.now }
             ensures { RanJob S.rules (record { links = W.links; faults = W.faults })
                 (S.hall service.entry.now) (most_links conns) job.entry.now job.exit.now }
         { run_job(alloc, service, job, conns) },
@@ -120,6 +121,7 @@ fn run_job<W: Wire, M: Machine, S: Service<M, W::Rx, W::Tx>>(
     job: &mut Job<W, M, S::Report>,
     conns: Option<u32>,
 )
+    requires ready { S.ready service.now }
     requires of { IfSome job.old.seat (IsOf (S.hall service.now)) }
     requires begins { S.rules.begins (S.hall service.now).start }
     ensures { RanJob S.rules (record { links = W.links; faults = W.faults }) (S.hall service.now)

@@ -10,13 +10,13 @@ ghost use Rattle.dp_serve.specs.Closings.{ServesOn, ClosesTo};
 
 use crate::LinkReport;
 use crate::closings::{broke, close_open, ran_out};
-use crate::service::Links;
-use dp_crew::{Crew, Flags, Ran, crews_add_up, run_crew};
+use crate::service::run_workers;
+use dp_crew::{Flags, Ran};
 use dp_epochs::{Journal, Shut};
 use dp_hall::{Hall, HallError, Seat};
 use dp_keeper::Keeper;
 use dp_session::Session;
-use dp_session_laws::journals_are_logs;
+use dp_session_laws::{feeds_go_on, gone_goes_on, journals_are_logs, sessions_go_on};
 use dp_wire::{Gate, Wire};
 use std::alloc::Global;
 use std::sync::Wait;
@@ -134,21 +134,12 @@ fn serve_wires<W: Wire + Send, K: Keeper + Send, G: Gate, R: Threads + Wait + Sy
         }) }
 {
     journals_are_logs();
-    crews_add_up::<W, Session<K>, W::Rx, W::Tx, Links<'_, R, K, G>>();
+    sessions_go_on();
+    feeds_go_on();
+    gone_goes_on();
     match Hall::start(alloc, session) {
         Ok((hall, mut seat)) => {
-            let links = Links {
-                rt,
-                alloc,
-                hall: &hall,
-                gate,
-            };
-            let crew = Crew {
-                alloc,
-                hall: &hall,
-                service: &links,
-            };
-            let ran = run_crew(rt, &crew, &mut seat, wires, conns);
+            let ran = run_workers(rt, alloc, &hall, &mut seat, wires, conns, gate);
             finish(hall, seat, ran)
         }
         Err(HallError { machine }) => serve_nothing(alloc, machine, wires),
