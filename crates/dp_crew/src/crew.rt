@@ -6,7 +6,7 @@ ghost use Rattle.dp_hall.specs.Calls.{IsOf};
 ghost use Rattle.dp_crew.specs.Runs.{most_links};
 ghost use Rattle.dp_crew.specs.Gathering.{Gathers, IsFirst, all_reports};
 
-use crate::gather::gather;
+use crate::gather::gather_jobs;
 use crate::jobs::{Job, make_jobs, run_jobs};
 use crate::{Flags, Reports, Service};
 use dp_hall::{Hall, Machine, Seat};
@@ -50,7 +50,6 @@ pub fn run_crew<
     wires: Vec<W>,
     conns: Option<u32>,
 ) -> Ran<W, S::Report>
-    requires ready { S.ready crew.now.service.now }
     requires same { S.hall crew.now.service.now ≡ crew.now.hall.now }
     requires of { IsOf crew.now.hall.now seat.old }
     requires first { IsFirst seat.old.view }
@@ -104,7 +103,6 @@ fn run_all<
     lists: &mut Vec<Vec<S::Report>>,
     conns: Option<u32>,
 ) -> Flags
-    requires ready { S.ready crew.now.service.now }
     requires same { S.hall crew.now.service.now ≡ crew.now.hall.now }
     requires of { IsOf crew.now.hall.now seat.old }
     requires first { IsFirst seat.old.view }
@@ -123,7 +121,7 @@ fn run_all<
     let mut jobs = jobs;
     make_jobs(crew.alloc, crew.hall, seat, wires, &mut jobs);
     run_jobs(rt, crew.alloc, crew.service, &mut jobs, conns);
-    let flags = gather::<W, M, S>(crew.hall, seat, &mut jobs, wires, lists);
+    let flags = gather_jobs::<W, M, S>(crew.hall, seat, &mut jobs, wires, lists);
     jobs.destroy_empty();
     flags
 }

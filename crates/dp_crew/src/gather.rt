@@ -16,7 +16,7 @@ use dp_wire::Wire;
 
 /// Joins the seats of all jobs, puts their wires back in their order, and adds their lists of
 /// reports. There is room for both.
-pub(crate) fn gather<W: Wire, M: Machine, S: Service<M, W::Rx, W::Tx>>(
+pub fn gather_jobs<W: Wire, M: Machine, S: Service<M, W::Rx, W::Tx>>(
     hall: &Hall<M>,
     seat: &mut Seat<M>,
     jobs: &mut Vec<Job<W, M, S::Report>>,

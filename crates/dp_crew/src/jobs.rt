@@ -13,13 +13,15 @@ use std::marker::Model;
 use std::thread::{Threads, for_each_mut};
 
 /// What a worker works with, and what it did.
-pub(crate) struct Job<W, M: Machine, P> {
+pub struct Job<W, M: Machine, P> {
     /// Its number.
-    pub(crate) who: u32,
-    pub(crate) wire: W,
+    pub who: u32,
+    /// Its wire.
+    pub wire: W,
     /// Its seat. There is none if no seat could be split off for it: then it doesn't work.
-    pub(crate) seat: Option<Seat<M>>,
-    pub(crate) worked: Worked<P>,
+    pub seat: Option<Seat<M>>,
+    /// What it did.
+    pub worked: Worked<P>,
 }
 
 impl<W, M: Machine, P> Model for Job<W, M, P> {
@@ -33,7 +35,7 @@ impl<W, M: Machine, P> Model for Job<W, M, P> {
 }
 
 /// Makes a job for each wire, the last wire's first, with a seat of its own. No wire is left.
-pub(crate) fn make_jobs<W, M: Machine, P>(
+pub fn make_jobs<W, M: Machine, P>(
     alloc: Global,
     hall: &Hall<M>,
     seat: &mut Seat<M>,
@@ -91,7 +93,6 @@ pub(crate) fn run_jobs<
     S: Service<M, W::Rx, W::Tx, Report: Send> + Sync,
     R: Threads + Sync,
 >(rt: &R, alloc: Global, service: &S, jobs: &mut [Job<W, M, S::Report>], conns: Option<u32>)
-    requires ready { S.ready service.now }
     requires of { All (λ job. IfSome job.seat (IsOf (S.hall service.now))) jobs.old }
     requires begins { S.rules.begins (S.hall service.now).start }
     ensures { RanJobs S.rules (record { links = W.links; faults = W.faults }) (S.hall service.now)
@@ -107,7 +108,7 @@ pub(crate) fn run_jobs<
         threads,
         &|_, job: &mut Job<W, M, S::Report>|
             requires { IfSome job.now.seat (IsOf (S.hall service.now))
-                × S.rules.begins (S.hall service.now).start × S.ready service.now }
+                × S.rules.begins (S.hall service.now).start }
             ensures { RanJob S.rules (record { links = W.links; faults = W.faults })
                 (S.hall service.entry.now) (most_links conns) job.entry.now job.exit.now }
         { run_job(alloc, service, job, conns) },
@@ -121,7 +122,6 @@ fn run_job<W: Wire, M: Machine, S: Service<M, W::Rx, W::Tx>>(
     job: &mut Job<W, M, S::Report>,
     conns: Option<u32>,
 )
-    requires ready { S.ready service.now }
     requires of { IfSome job.old.seat (IsOf (S.hall service.now)) }
     requires begins { S.rules.begins (S.hall service.now).start }
     ensures { RanJob S.rules (record { links = W.links; faults = W.faults }) (S.hall service.now)

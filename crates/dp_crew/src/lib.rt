@@ -14,6 +14,8 @@ mod worker;
 
 pub use crew::{Crew, Ran, run_crew};
 pub use flags::Flags;
+pub use gather::gather_jobs;
+pub use jobs::{Job, make_jobs};
 pub use laws::crews_add_up;
 pub use reports::Reports;
 pub use service::{Served, Service};

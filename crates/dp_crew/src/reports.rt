@@ -35,7 +35,7 @@ impl<P> Reports<P> {
     }
 
     /// The reports of these lists, one list after another.
-    pub(crate) fn of(lists: Vec<Vec<P>>) -> Reports<P>
+    pub fn of(lists: Vec<Vec<P>>) -> Reports<P>
         requires { length (all_reports lists.items) < 2 ^ 64 }
         ensures { result ≡ all_reports lists.items }
     {

@@ -31,9 +31,6 @@ pub trait Service<M: Machine, R, T> {
     /// What is told of links, and of which links it is told.
     ghost rules: { Rules Self.Report M.Event (Result M.Reply AllocError) M R T };
 
-    /// What it needs to serve a link. Where an impl says nothing, it needs nothing.
-    ghost ready: { Self → Type 0 } = { λ _. Unit {0} };
-
     /// Serves a link to its end: the link of this number, from 0, among those of the worker's wire.
     fn serve(
         &self,
@@ -43,7 +40,6 @@ pub trait Service<M: Machine, R, T> {
         who: u32,
         link: u32,
     ) -> Served<R, T, Self::Report>
-        requires ready { ready self.now }
         requires of { IsOf (hall self.now) seat.old }
         requires begins { rules.begins (hall self.now).start }
         ensures of { IsOf (hall self.now) seat.new }

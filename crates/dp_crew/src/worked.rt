@@ -33,7 +33,7 @@ impl<P> Worked<P> {
     }
 
     /// Notes the report of a link, for which there is room, and what came of it.
-    pub(crate) fn note(&mut self, report: P, memory: bool, fault: bool)
+    pub fn note(&mut self, report: P, memory: bool, fault: bool)
         requires { vec_len self.old.reports < vec_capacity self.old.reports }
         ensures reports { self.new.reports.items ≡ self.old.reports.items ++ report ∷ [] }
         ensures memory { self.new.memory ≡ self.old.memory || memory }

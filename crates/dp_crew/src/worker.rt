@@ -23,7 +23,6 @@ pub fn run_links<W: Wire, M: Machine, S: Service<M, W::Rx, W::Tx>>(
     wire: &mut W,
     conns: Option<u32>,
 ) -> Worked<S::Report>
-    requires ready { S.ready service.now }
     requires of { IsOf (S.hall service.now) seat.old }
     requires begins { S.rules.begins (S.hall service.now).start }
     ensures of { IsOf (S.hall service.now) seat.new }
@@ -52,7 +51,6 @@ fn serve_next<W: Wire, M: Machine, S: Service<M, W::Rx, W::Tx>>(
     link: u32,
     worked: &mut Worked<S::Report>,
 ) -> bool
-    requires ready { S.ready service.now }
     requires of { IsOf (S.hall service.now) seat.old }
     requires begins { S.rules.begins (S.hall service.now).start }
     ensures of { IsOf (S.hall service.now) seat.new }

@@ -1,6 +1,8 @@
 -- What threads share of a session's hall, and what they hand to each other.
 use denote.RattleType.{RattleType}
 use denote.Param.Send.{IsSend, IsSync}
+use Rattle.dp_crew.proofs.Sending.{job_send}
+use Rattle.dp_crew.specs.contracts.jobs.Job as Job
 use Rattle.dp_epochs.specs.contracts.event.Answer as Answer
 use Rattle.dp_epochs.specs.contracts.event.Event as Event
 use Rattle.dp_epochs.specs.contracts.event.Query as Query
@@ -25,3 +27,11 @@ module _ (K : RattleType) (g : Ghosts K.Denot) where
   session_seat_send s =
       seat_send (Session.the_row K g) Event.the_row Reply.the_row Query.the_row Answer.the_row
       (machine.ghosts K g machine.no_dict) (session.the_send K g s)
+
+  pub session_job_send : (W : RattleType) → IsSend W → IsSend K
+      → IsSend (Job.the_row W (Session.the_row K g) LinkReport.the_row Event.the_row Reply.the_row
+      Query.the_row Answer.the_row (machine.ghosts K g machine.no_dict))
+  session_job_send W w s =
+      job_send W (Session.the_row K g) LinkReport.the_row Event.the_row Reply.the_row Query.the_row
+      Answer.the_row (machine.ghosts K g machine.no_dict) w (session.the_send K g s)
+      report.the_send

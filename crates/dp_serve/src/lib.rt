@@ -5,11 +5,14 @@
 #![tactic(auto)]
 
 mod closings;
+mod jobs;
 mod link;
 mod pumps;
 mod report;
 mod server;
-mod service;
+mod told;
+mod worker;
 
+pub use jobs::Reports;
 pub use report::LinkReport;
-pub use server::{Reports, Served, serve};
+pub use server::{Served, serve};

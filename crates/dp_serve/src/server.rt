@@ -10,20 +10,18 @@ ghost use Rattle.dp_serve.specs.Closings.{ServesOn, ClosesTo};
 
 use crate::LinkReport;
 use crate::closings::{broke, close_open, ran_out};
-use crate::service::run_workers;
-use dp_crew::{Flags, Ran};
+use crate::jobs::{Crew, Reports, run_workers};
+use crate::told::Told;
+use dp_crew::{Flags, Ran, crews_add_up};
 use dp_epochs::{Journal, Shut};
 use dp_hall::{Hall, HallError, Seat};
 use dp_keeper::Keeper;
 use dp_session::Session;
-use dp_session_laws::{feeds_go_on, gone_goes_on, journals_are_logs, sessions_go_on};
+use dp_session_laws::journals_are_logs;
 use dp_wire::{Gate, Wire};
 use std::alloc::Global;
 use std::sync::Wait;
 use std::thread::Threads;
-
-/// The reports of all links, by rising worker and then by rising link.
-pub type Reports = dp_crew::Reports<LinkReport>;
 
 /// What serving a session left.
 #[derive(Drop)]
@@ -134,12 +132,16 @@ fn serve_wires<W: Wire + Send, K: Keeper + Send, G: Gate, R: Threads + Wait + Sy
         }) }
 {
     journals_are_logs();
-    sessions_go_on();
-    feeds_go_on();
-    gone_goes_on();
+    crews_add_up::<W, Session<K>, W::Rx, W::Tx, Told<K>>();
     match Hall::start(alloc, session) {
         Ok((hall, mut seat)) => {
-            let ran = run_workers(rt, alloc, &hall, &mut seat, wires, conns, gate);
+            let crew = Crew {
+                rt,
+                alloc,
+                hall: &hall,
+                gate,
+            };
+            let ran = run_workers(&crew, &mut seat, wires, conns);
             finish(hall, seat, ran)
         }
         Err(HallError { machine }) => serve_nothing(alloc, machine, wires),

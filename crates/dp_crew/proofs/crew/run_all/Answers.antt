@@ -37,8 +37,8 @@ pub run_jobs-requires-clause-begins : goal.run_jobs-requires-clause-begins
 run_jobs-requires-clause-begins g c κs within =
     subst (λ hall. g.S.Service.rules.begins hall.start) (sym c.requires.same) c.requires.begins
 
-pub gather-flags-requires-clause-seats : goal.gather-flags-requires-clause-seats
-gather-flags-requires-clause-seats g c κs within =
+pub gather_jobs-flags-requires-clause-seats : goal.gather_jobs-flags-requires-clause-seats
+gather_jobs-flags-requires-clause-seats g c κs within =
     subst (All (λ job. IfSome job.seat (IsOf c.args.crew.now.hall.now)))
     (sym (given_back c.make_jobs.new.jobs.items c.run_jobs.new.jobs c.make_jobs.new.jobs.len
     (c.run_jobs.auto.jobs ∙ c.deref_mut.ensures.len)))
@@ -50,8 +50,8 @@ gather-flags-requires-clause-seats g c κs within =
     c.deref_mut.result.now c.run_jobs.new.jobs)
     c.requires.same c.run_jobs.ensures))
 
-pub gather-flags-requires-clause-room : goal.gather-flags-requires-clause-room
-gather-flags-requires-clause-room g c κs within =
+pub gather_jobs-flags-requires-clause-room : goal.gather_jobs-flags-requires-clause-room
+gather_jobs-flags-requires-clause-room g c κs within =
     let count = made-length c.args.crew.now.hall.now c.args.seat.now.view c.make_jobs.new.seat.view
     c.args.wires.now.items c.make_jobs.new.jobs.items c.make_jobs.ensures.made in (
       omega (arith, count, c.make_jobs.new.jobs.ok, c.args.wires.now.ok, c.make_jobs.ensures.room),
@@ -62,7 +62,7 @@ pub returns-clause-gathers : goal.returns-clause-gathers
 returns-clause-gathers g c =
     let back = given_back c.make_jobs.new.jobs.items c.run_jobs.new.jobs c.make_jobs.new.jobs.len
     (c.run_jobs.auto.jobs ∙ c.deref_mut.ensures.len) in
-    c.gather-flags.ensures.gathers c.args.seat.now.view c.args.wires.now.items
+    c.gather_jobs-flags.ensures.gathers c.args.seat.now.view c.args.wires.now.items
     c.make_jobs.new.jobs.items _ c.requires.first
     (most-small c.args.conns c.unwrap_or-most.result c.unwrap_or-most.type_inv
     c.unwrap_or-most.ensures) c.make_jobs.ensures.made

@@ -6,7 +6,7 @@ use Rattle.dp_hall.specs.Calls.{IsOf}
 use Rattle.dp_crew.specs.Gathering.{all_reports}
 use Rattle.dp_crew.proofs.ReportLemmas.{all_reports-more}
 use Rattle.dp_crew.proofs.GatherLemmas.{gathered-none, gathered-more, gathered-all}
-use Rattle.dp_crew.proofs.gather.gather.Goals as goal
+use Rattle.dp_crew.proofs.gather.gather_jobs.Goals as goal
 
 -- how long a list with one element more is
 one_more : {A : Type 0} (xs ys : List A) (x : A) → ys ≡ xs ++ x ∷ [] → length ys ≡ length xs + 1

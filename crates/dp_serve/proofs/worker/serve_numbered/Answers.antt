@@ -1,6 +1,6 @@
 use Rattle.dp_serve.specs.Links.{link_seen}
 use Rattle.dp_serve.proofs.LinkLemmas.{session-serves}
-use Rattle.dp_serve.proofs.service.serve_numbered.Goals as goal
+use Rattle.dp_serve.proofs.worker.serve_numbered.Goals as goal
 
 pub returns-clause-serves : goal.returns-clause-serves
 returns-clause-serves g c =

@@ -7,7 +7,7 @@ use Rattle.dp_crew.specs.Parts.{Sight}
 use Rattle.dp_crew.specs.Jobs.{JobValue, MadeJobs, RanJobs}
 use Rattle.dp_crew.specs.Gathering.{IsFirst, all_reports}
 use Rattle.dp_crew.proofs.GatherLemmas.{GatheredSoFar}
-use Rattle.dp_crew.proofs.gather.gather.Given as goal
+use Rattle.dp_crew.proofs.gather.gather_jobs.Given as goal
 
 abbrev pub invariant-jobs : goal.invariant-jobs
 invariant-jobs g l =

@@ -1,0 +1,34 @@
+use denote.Param.{param}
+use denote.Param.Send.{sendable}
+use Rattle.std.proofs.Common.{get_or}
+use Rattle.std.proofs.Crossing.{sync}
+use Rattle.dp_crew.specs.Runs.{most_links}
+use Rattle.dp_crew.proofs.Sending.{job_send, number_sync}
+use Rattle.dp_crew.proofs.Making.{ran-at, ran-each}
+use Rattle.dp_serve.specs.Links.{link_seen}
+use Rattle.dp_serve.specs.Works.{session_rules}
+use Rattle.dp_serve.proofs.Sending.{session_hall_sync, session_job_send}
+use Rattle.dp_serve.proofs.jobs.run_jobs.Goals as goal
+
+pub for_each_mut-requires-send-T : goal.for_each_mut-requires-send-T
+for_each_mut-requires-send-T g c κs within = search (sendable, session_job_send) depth 20
+
+pub for_each_mut-requires-sync-F : goal.for_each_mut-requires-sync-F
+for_each_mut-requires-sync-F g c κs within =
+    let hall = session_hall_sync (param 1 g.row.K) g.K.Keeper c.type_bounds.send-K in
+    let rt = c.type_bounds.sync-R in
+    let gate = c.type_bounds.sync-G in
+    search (sendable, sync, number_sync) depth 20
+
+pub returns : goal.returns
+returns g c =
+    let olds = c.args.jobs.now in
+    let news = c.for_each_mut.new.s in
+    let most = most_links c.args.conns in
+    let rules = session_rules (link_seen g.W.Rx.Source.left g.W.Rx.Source.faults g.W.Tx.Sink.held
+    g.W.Tx.Sink.faults) in
+    ran-each rules _ c.args.hall.now most olds news c.for_each_mut.auto.s
+    (λ i d inside.
+    let job = (c.for_each_mut.ensures i d inside).1 in
+    ran-at rules _ c.args.hall.now most job.argument.now job.after_call.now (get_or olds i d)
+    (get_or news i d) job.argument_is job.left job.call)
