@@ -14,6 +14,8 @@ use Rattle.dp_keeper.specs.declared.keeper.Keeper.{Ghosts}
 use Rattle.dp_session.proofs.session.Session.TheSendSync as session
 use Rattle.dp_session.specs.contracts.session.Session as Session
 use Rattle.dp_session.specs.contracts.session.SessionMachine.TheImpl as machine
+use Rattle.dp_serve.proofs.report.LinkReport.TheSendSync as report
+use Rattle.dp_serve.specs.contracts.report.LinkReport as LinkReport
 
 module _ (K : RattleType) (g : Ghosts K.Denot) where
   pub session_hall_sync : IsSend K → IsSync (Hall.the_row (Session.the_row K g) Event.the_row

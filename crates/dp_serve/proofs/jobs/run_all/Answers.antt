@@ -14,8 +14,8 @@ given_back : {A : Type 0} (olds news : List A) (n : ℕ) → length news ≡ n
     → take n (news ++ drop (length news) olds) ≡ news
 given_back olds news n same = take_at news (drop (length news) olds) n same
 
-pub run_jobs-requires-clause-1 : goal.run_jobs-requires-clause-1
-run_jobs-requires-clause-1 g c κs within =
+pub run_jobs-requires-clause-of : goal.run_jobs-requires-clause-of
+run_jobs-requires-clause-of g c κs within =
     subst (All (λ job. IfSome job.seat (IsOf c.args.crew.now.hall.now)))
     (sym c.deref_mut.ensures.value) (made-of c.args.crew.now.hall.now c.args.seat.now.view
     c.make_jobs.new.seat.view c.args.wires.now.items c.make_jobs.new.jobs.items
