@@ -1,20 +1,14 @@
 -- What a crew served and what closing the hall left are a session that was served.
-use Rattle.std.proofs.Common.{◌≡◌, ℕ, true, List, [], ◌++◌, refl, sym, ap, subst, subst₂, ◌∙◌}
-use Rattle.std.proofs.Common.{append-nil}
-use Rattle.dp_hall.specs.Calls.{Closes}
+use Rattle.std.proofs.Common.{◌≡◌, ℕ, List, ◌++◌, sym, ap, subst₂, ◌∙◌}
 use Rattle.dp_hall.specs.Logs.{left_by}
 use Rattle.dp_epochs.specs.Past.{Past, Step}
 use Rattle.dp_session_laws.specs.Logs.{LogEntry, IsSessionLog}
 use Rattle.dp_session_laws.specs.Journals.{kept_events}
-use Rattle.dp_link.specs.Acts.{SeatView}
 use Rattle.dp_crew.specs.declared.flags.Flags.{Flags}
 use Rattle.dp_crew.specs.Parts.{EachFrom, ServesAll}
-use Rattle.dp_crew.specs.Gathering.{Gathers, IsFirst}
-use Rattle.dp_crew.proofs.CrewLemmas.{gathers-nothing, serves-all}
 use Rattle.dp_serve.specs.declared.report.LinkReport.{LinkReport}
 use Rattle.dp_serve.specs.Works.{session_rules}
 use Rattle.dp_serve.specs.Serving.{Seen, sight, IsPart, Left, Serves}
-use Rattle.dp_serve.specs.Closings.{ClosesTo}
 
 module _ {W R T : Type 0} (see : Seen W R T) (start : Past) (most : ℕ) where
   -- what is left beside the wires, by the links that were served
