@@ -10,13 +10,13 @@ ghost use Rattle.dp_crew.specs.Jobs.{JobValue, MadeJobs, RanJobs};
 ghost use Rattle.dp_crew.specs.Gathering.{Gathers, IsFirst, JoinsSeat, all_reports};
 
 use crate::jobs::Job;
-use crate::{Flags, Service, Worked};
+use crate::{Flags, Reporting, Worked};
 use dp_hall::{Hall, Machine, Seat, seats_are_sound};
 use dp_wire::Wire;
 
 /// Joins the seats of all jobs, puts their wires back in their order, and adds their lists of
 /// reports. There is room for both.
-pub fn gather_jobs<W: Wire, M: Machine, S: Service<M, W::Rx, W::Tx>>(
+pub fn gather_jobs<W: Wire, M: Machine, S: Reporting<M, W::Rx, W::Tx>>(
     hall: &Hall<M>,
     seat: &mut Seat<M>,
     jobs: &mut Vec<Job<W, M, S::Report>>,

@@ -9,12 +9,12 @@ ghost use Rattle.dp_crew.specs.declared.flags.Flags.{Flags as Noted};
 ghost use Rattle.dp_crew.specs.Parts.{Sight, ServesAll};
 ghost use Rattle.dp_crew.specs.Gathering.{Gathers, IsFirst};
 
-use crate::Service;
+use crate::Reporting;
 use dp_hall::Machine;
 
 /// Once the workers of a crew are joined and their hall is closed, its log is theirs. If memory
 /// ran out before there was a hall, none was served.
-pub fn crews_add_up<W, M: Machine, R, T, S: Service<M, R, T>>()
+pub fn crews_add_up<W, M: Machine, R, T, S: Reporting<M, R, T>>()
     ensures first { (m : M)
         → IsFirst (first_view {E = M.Event} {O = Result M.Reply AllocError} m) }
     ensures alone { (see : Sight W R T) (start : M) (most : ℕ)

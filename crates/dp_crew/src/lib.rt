@@ -18,6 +18,6 @@ pub use gather::gather_jobs;
 pub use jobs::{Job, make_jobs};
 pub use laws::crews_add_up;
 pub use reports::Reports;
-pub use service::{Served, Service};
+pub use service::{Reporting, Served, Service};
 pub use worked::Worked;
 pub use worker::run_links;

@@ -7,7 +7,7 @@ ghost use Rattle.dp_hall.specs.Calls.{IsOf};
 ghost use Rattle.dp_link_tests.specs.declared.counter.Counter.{Counter as Count};
 ghost use Rattle.dp_link_tests.specs.Counting.{Adds, ran_out};
 
-use dp_crew::{Crew, Ran, Served, Service, crews_add_up, run_crew};
+use dp_crew::{Crew, Ran, Reporting, Served, Service, crews_add_up, run_crew};
 use dp_hall::{Hall, HallError, Machine, Seat, calls_add_up, seats_come_back};
 use dp_io::{Sink, Source};
 use dp_wire::Wire;
@@ -76,14 +76,18 @@ struct Far {
     memory: bool,
 }
 
-impl<'a, W: Wait, R: Source, T: Sink> Service<Counter, R, T> for Adder<'a, W> {
+impl<'a, W: Wait, R: Source, T: Sink> Reporting<Counter, R, T> for Adder<'a, W> {
     ghost use Rattle.dp_link_tests.specs.Counting.{count_rules};
 
     type Report = Added;
 
-    ghost hall = { λ adder. adder.hall.now };
-
     ghost rules = { count_rules };
+
+    fn reports_go_on() {}
+}
+
+impl<'a, W: Wait, R: Source, T: Sink> Service<Counter, R, T> for Adder<'a, W> {
+    ghost hall = { λ adder. adder.hall.now };
 
     fn serve(
         &self,
@@ -110,8 +114,6 @@ impl<'a, W: Wait, R: Source, T: Sink> Service<Counter, R, T> for Adder<'a, W> {
             fault: false,
         }
     }
-
-    fn reports_go_on() {}
 }
 
 /// Adds the bytes of a link, up to `MOST`.

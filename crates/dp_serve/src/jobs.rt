@@ -110,7 +110,7 @@ fn run_all<W: Wire + Send, K: Keeper + Send, G: Gate, R: Threads + Wait + Sync>(
     let mut jobs = jobs;
     make_jobs(crew.alloc, crew.hall, seat, wires, &mut jobs);
     run_jobs(crew.rt, crew.alloc, crew.hall, &mut jobs, conns, crew.gate);
-    let flags = gather_jobs::<W, Session<K>, Told<K>>(crew.hall, seat, &mut jobs, wires, lists);
+    let flags = gather_jobs::<W, Session<K>, Told>(crew.hall, seat, &mut jobs, wires, lists);
     jobs.destroy_empty();
     flags
 }

@@ -132,7 +132,7 @@ fn serve_wires<W: Wire + Send, K: Keeper + Send, G: Gate, R: Threads + Wait + Sy
         }) }
 {
     journals_are_logs();
-    crews_add_up::<W, Session<K>, W::Rx, W::Tx, Told<K>>();
+    crews_add_up::<W, Session<K>, W::Rx, W::Tx, Told>();
     match Hall::start(alloc, session) {
         Ok((hall, mut seat)) => {
             let crew = Crew {

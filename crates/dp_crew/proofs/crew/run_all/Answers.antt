@@ -35,17 +35,17 @@ run_jobs-requires-clause-of g c κs within =
 
 pub run_jobs-requires-clause-begins : goal.run_jobs-requires-clause-begins
 run_jobs-requires-clause-begins g c κs within =
-    subst (λ hall. g.S.Service.rules.begins hall.start) (sym c.requires.same) c.requires.begins
+    subst (λ hall. g.S.Reporting.rules.begins hall.start) (sym c.requires.same) c.requires.begins
 
 pub gather_jobs-flags-requires-clause-seats : goal.gather_jobs-flags-requires-clause-seats
 gather_jobs-flags-requires-clause-seats g c κs within =
     subst (All (λ job. IfSome job.seat (IsOf c.args.crew.now.hall.now)))
     (sym (given_back c.make_jobs.new.jobs.items c.run_jobs.new.jobs c.make_jobs.new.jobs.len
     (c.run_jobs.auto.jobs ∙ c.deref_mut.ensures.len)))
-    (ran-of g.S.Service.rules (record { links = g.W.Wire.links; faults = g.W.Wire.faults })
+    (ran-of g.S.Reporting.rules (record { links = g.W.Wire.links; faults = g.W.Wire.faults })
     c.args.crew.now.hall.now (most_links c.args.conns) c.deref_mut.result.now
     c.run_jobs.new.jobs
-    (subst (λ hall. RanJobs g.S.Service.rules
+    (subst (λ hall. RanJobs g.S.Reporting.rules
     (record { links = g.W.Wire.links; faults = g.W.Wire.faults }) hall (most_links c.args.conns)
     c.deref_mut.result.now c.run_jobs.new.jobs)
     c.requires.same c.run_jobs.ensures))
@@ -66,12 +66,12 @@ returns-clause-gathers g c =
     c.make_jobs.new.jobs.items _ c.requires.first
     (most-small c.args.conns c.unwrap_or-most.result c.unwrap_or-most.type_inv
     c.unwrap_or-most.ensures) c.make_jobs.ensures.made
-    (ran-same g.S.Service.rules (record { links = g.W.Wire.links; faults = g.W.Wire.faults })
+    (ran-same g.S.Reporting.rules (record { links = g.W.Wire.links; faults = g.W.Wire.faults })
     c.args.crew.now.hall.now (most_links c.args.conns) c.deref_mut.result.now
     c.run_jobs.new.jobs c.make_jobs.new.jobs.items
     (take c.make_jobs.new.jobs.len (c.run_jobs.new.jobs ++ drop (length c.run_jobs.new.jobs)
     c.make_jobs.new.jobs.items)) c.deref_mut.ensures.value (sym back)
-    (subst (λ hall. RanJobs g.S.Service.rules
+    (subst (λ hall. RanJobs g.S.Reporting.rules
     (record { links = g.W.Wire.links; faults = g.W.Wire.faults }) hall (most_links c.args.conns)
     c.deref_mut.result.now c.run_jobs.new.jobs)
     c.requires.same c.run_jobs.ensures))

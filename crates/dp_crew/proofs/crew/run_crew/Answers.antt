@@ -5,12 +5,12 @@ use Rattle.dp_crew.proofs.crew.run_crew.Goals as goal
 
 pub of-reports-requires : goal.of-reports-requires
 of-reports-requires g c =
-    reports-few g.S.Service.rules _ c.args.crew.now.hall.now.start _ c.run_all-flags.new.seat.view
+    reports-few g.S.Reporting.rules _ c.args.crew.now.hall.now.start _ c.run_all-flags.new.seat.view
     [] c.args.wires.items c.run_all-flags.new.wires.items
     (all_reports c.run_all-flags.new.lists.items) c.run_all-flags.result c.requires.few
     c.run_all-flags.ensures.gathers
 
 pub returns-then-is_err-clause-gathers : goal.returns-then-is_err-clause-gathers
 returns-then-is_err-clause-gathers g c =
-    gathers-nothing g.S.Service.rules _ c.args.crew.now.hall.now.start _ c.args.seat.now.view
+    gathers-nothing g.S.Reporting.rules _ c.args.crew.now.hall.now.start _ c.args.seat.now.view
     c.args.wires.items _ _ c.requires.first c.new-reports.ensures refl refl refl

@@ -22,7 +22,7 @@ jobs-init g c =
       wires_room = omega (arith, c.requires.room.0, c.args.wires.now.ok, no_wires);
       lists_room = omega (arith, c.requires.room.1, c.args.lists.now.ok, no_lists);
       gathered = λ v olds made most first small were_made ran.
-          gathered-none g.S.Service.rules _ c.args.hall.now most v c.args.seat.now.view
+          gathered-none g.S.Reporting.rules _ c.args.hall.now most v c.args.seat.now.view
           olds made c.args.jobs.now.items c.args.wires.now.items
           (all_reports c.args.lists.now.items) _ first
           were_made ran c.requires.empty.0 (ap all_reports c.requires.empty.1) refl refl;
@@ -61,7 +61,7 @@ jobs-preserved g c =
         c.take_in.new.lists.ok,
       );
       gathered = λ v olds made most first small were_made ran.
-          gathered-more g.S.Service.rules _ c.args.hall.now most
+          gathered-more g.S.Reporting.rules _ c.args.hall.now most
           g.M.Machine.may_step c.reports_go_on.ensures v c.jobs.seat.view
           c.take_in.new.seat.view olds
           c.jobs.jobs.items c.pop.new.self.items job c.jobs.wires.items c.take_in.new.wires.items
@@ -75,7 +75,7 @@ jobs-preserved g c =
 
 pub returns-clause-gathers : goal.returns-clause-gathers
 returns-clause-gathers g c v olds made most first small were_made ran =
-    gathered-all g.S.Service.rules _ c.args.hall.now most v c.jobs.seat.view olds
+    gathered-all g.S.Reporting.rules _ c.args.hall.now most v c.jobs.seat.view olds
     c.jobs.jobs.items
     c.jobs.wires.items (all_reports c.jobs.lists.items) c.jobs.flags
     (nil_from_length c.jobs.jobs.items

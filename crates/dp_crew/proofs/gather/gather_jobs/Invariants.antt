@@ -11,7 +11,7 @@ use Rattle.dp_crew.proofs.gather.gather_jobs.Given as goal
 
 abbrev pub invariant-jobs : goal.invariant-jobs
 invariant-jobs g l =
-    let rules = g.S.Service.rules in
+    let rules = g.S.Reporting.rules in
     let see : Sight g.row.W.Denot g.row.W-Rx.Denot g.row.W-Tx.Denot = record {
       links = g.W.Wire.links;
       faults = g.W.Wire.faults;

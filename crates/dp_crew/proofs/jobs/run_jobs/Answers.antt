@@ -20,8 +20,8 @@ for_each_mut-requires-sync-F g c κs within =
     g.row.M-Reply g.row.M-Query g.row.M-Answer g.row.S-Report g.W.laws g.M.laws g.S.laws g.R.laws
     g.W.Rx.laws g.W.Tx.laws g.M.Event.laws g.M.Reply.laws g.M.Query.laws g.M.Answer.laws
     g.S.Report.laws g.W.Wire g.W.Wire-dict g.W.Rx.Source g.W.Rx.Source-dict g.W.Tx.Sink
-    g.W.Tx.Sink-dict g.M.Machine g.M.Machine-dict g.S.Service g.S.Service-dict g.R.Threads
-    g.R.Threads-dict g.W.Rx.Destruct-dict g.W.Tx.Destruct-dict g.M.Reply.Destruct-dict
+    g.W.Tx.Sink-dict g.M.Machine g.M.Machine-dict g.S.Service g.S.Service-dict g.S.Reporting
+    g.S.Reporting-dict g.R.Threads g.R.Threads-dict g.W.Rx.Destruct-dict g.W.Tx.Destruct-dict g.M.Reply.Destruct-dict
     g.M.Answer.Destruct-dict g.S.Report.Destruct-dict κs)
     (search (sendable, sync, number_sync) depth 20 fits 5000 parts 0)
 
@@ -30,9 +30,9 @@ returns g c =
     let olds = c.args.jobs.now in
     let news = c.for_each_mut.new.s in
     let most = most_links c.args.conns in
-    ran-each g.S.Service.rules _ (g.S.Service.hall c.args.service.now) most olds news
+    ran-each g.S.Reporting.rules _ (g.S.Service.hall c.args.service.now) most olds news
     c.for_each_mut.auto.s
     (λ i d inside.
     let job = (c.for_each_mut.ensures i d inside).1 in
-    ran-at g.S.Service.rules _ (g.S.Service.hall c.args.service.now) most job.argument.now
+    ran-at g.S.Reporting.rules _ (g.S.Service.hall c.args.service.now) most job.argument.now
     job.after_call.now (get_or olds i d) (get_or news i d) job.argument_is job.left job.call)

@@ -16,10 +16,10 @@ returns-clause-alone g c see start most v old new reports flags h = back-close v
 
 pub returns-clause-closed : goal.returns-clause-closed
 returns-clause-closed g c see start last most v old new reports flags begins h closes =
-    serves-all g.S.Service.rules g.M.Machine.may_step see start last most
+    serves-all g.S.Reporting.rules g.M.Machine.may_step see start last most
     c.reports_go_on.ensures begins v old new reports flags h closes
 
 pub returns-clause-nothing : goal.returns-clause-nothing
 returns-clause-nothing g c see start most wires flags memory fault wire =
-    serves-nothing g.S.Service.rules see start most g.M.Machine.may_step wires [] flags refl memory
+    serves-nothing g.S.Reporting.rules see start most g.M.Machine.may_step wires [] flags refl memory
     fault wire

@@ -10,7 +10,7 @@ links-init g c =
     record {
       of = c.requires.of;
       far =
-          served-none g.S.Service.rules g.M.Machine.may_step
+          served-none g.S.Reporting.rules g.M.Machine.may_step
           (g.S.Service.hall c.args.service.now).start
           c.args.who v (g.W.Wire.links c.args.wire.now) (g.W.Wire.faults c.args.wire.now)
           c.new-worked.result (works-calls v v [] (λ out h. h) same)

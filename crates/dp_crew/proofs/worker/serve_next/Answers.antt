@@ -8,7 +8,7 @@ returns-in-Ok-Some-clause-serves g c = λ v links count far.
     let start = (g.S.Service.hall c.args.service.now).start in
     let w = c.serve-rx.new.seat.view in
     let out = rw c.in-Ok-Some.field-0-is at c.in-Ok-Some.ensures.links in
-    served-more g.S.Service.rules g.M.Machine.may_step start c.args.who
+    served-more g.S.Reporting.rules g.M.Machine.may_step start c.args.who
     c.reports_go_on.ensures c.args.link v c.args.seat.now.view w links
     (g.W.Wire.links c.args.wire.now) (g.W.Wire.links c.accept.new.self)
     (g.W.Wire.links c.done.new.self) count (g.W.Wire.faults c.args.wire.now)
@@ -25,7 +25,7 @@ returns-in-Ok-Some-clause-serves g c = λ v links count far.
 pub returns-in-Ok-None-clause-serves : goal.returns-in-Ok-None-clause-serves
 returns-in-Ok-None-clause-serves g c = λ v links count far.
     let none = rw c.in-Ok-None.field-0-is at c.in-Ok-None.ensures.links in
-    served-last g.S.Service.rules g.M.Machine.may_step
+    served-last g.S.Reporting.rules g.M.Machine.may_step
     (g.S.Service.hall c.args.service.now).start c.args.who
     c.args.link v c.args.seat.now.view links (g.W.Wire.links c.args.wire.now)
     (g.W.Wire.links c.accept.new.self) count (g.W.Wire.faults c.args.wire.now)
