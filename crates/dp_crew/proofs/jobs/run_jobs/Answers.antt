@@ -21,8 +21,8 @@ for_each_mut-requires-sync-F g c κs within =
     g.W.Rx.laws g.W.Tx.laws g.M.Event.laws g.M.Reply.laws g.M.Query.laws g.M.Answer.laws
     g.S.Report.laws g.W.Wire g.W.Wire-dict g.W.Rx.Source g.W.Rx.Source-dict g.W.Tx.Sink
     g.W.Tx.Sink-dict g.M.Machine g.M.Machine-dict g.S.Service g.S.Service-dict g.S.Reporting
-    g.S.Reporting-dict g.R.Threads g.R.Threads-dict g.W.Rx.Destruct-dict g.W.Tx.Destruct-dict g.M.Reply.Destruct-dict
-    g.M.Answer.Destruct-dict g.S.Report.Destruct-dict κs)
+    g.S.Reporting-dict g.R.Threads g.R.Threads-dict g.W.Rx.Destruct-dict g.W.Tx.Destruct-dict
+    g.M.Reply.Destruct-dict g.M.Answer.Destruct-dict g.S.Report.Destruct-dict κs)
     (search (sendable, sync, number_sync) depth 20 fits 5000 parts 0)
 
 pub returns : goal.returns

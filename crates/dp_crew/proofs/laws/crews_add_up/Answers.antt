@@ -21,5 +21,6 @@ returns-clause-closed g c see start last most v old new reports flags begins h c
 
 pub returns-clause-nothing : goal.returns-clause-nothing
 returns-clause-nothing g c see start most wires flags memory fault wire =
-    serves-nothing g.S.Reporting.rules see start most g.M.Machine.may_step wires [] flags refl memory
+    serves-nothing g.S.Reporting.rules see start most g.M.Machine.may_step
+    wires [] flags refl memory
     fault wire
