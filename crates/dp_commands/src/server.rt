@@ -10,6 +10,7 @@ ghost use Rattle.dp_commands.specs.Servers.{end_of_fault, server_end};
 use crate::ending::Ending;
 use crate::host::Resources;
 use crate::running::Ran;
+use dp_any_session::AnySession;
 use dp_keeper::Keeper;
 use dp_lines::RunEnd;
 use dp_serve::{Served, serve};
@@ -57,7 +58,7 @@ pub(crate) fn run_server<R: Threads + Wait + Sync, W: Wire + Send, K: Keeper + S
         memory,
         store,
         wire,
-    } = serve(rt, alloc, session, wires, conns, gate);
+    } = serve(rt, alloc, AnySession::new(session), wires, conns, gate);
     Ran {
         ending: server_end(memory, store, wire),
         wires,

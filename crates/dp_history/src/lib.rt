@@ -13,5 +13,5 @@ mod segment;
 pub use frames::HistoryFrames;
 pub use item::{HistoryItem, copies, count_kept, entry, join_entry, name_text, put_item};
 pub use opening::Opening;
-pub use page::PageFrames;
+pub use page::{Page, PageFrames};
 pub use presence::{first_operator, free_id, next_operator, present_ids};

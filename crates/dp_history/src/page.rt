@@ -1,4 +1,4 @@
-//! The frames of a page.
+//! Pages, and their frames.
 
 ghost use Rattle.std.specs.Prelude.{◌≡◌, [], IfOk, OnOk, OnErr, take, drop};
 ghost use Rattle.dp_messages.specs.Messages.{entry_bytes};
@@ -8,6 +8,14 @@ use dp_messages::{Entry, put_entry};
 use std::alloc::{AllocError, Global};
 use std::marker::Model;
 use std::sync::Arc;
+
+/// Entries that were put as frames: a number of those of an epoch, from this place on.
+#[derive(Clone, Copy)]
+pub struct Page {
+    pub epoch: u32,
+    pub at: u32,
+    pub count: usize,
+}
 
 /// Bytes of a segment that others have too.
 #[derive(Drop)]

@@ -17,8 +17,8 @@ use Rattle.dp_epochs.specs.State.{State}
 use Rattle.dp_epochs.specs.Past.{Past, Step, state_of}
 use Rattle.dp_epochs.specs.Pull.{answered}
 use Rattle.dp_history.specs.Frames.{frames_of}
-use Rattle.dp_tables.specs.declared.pages.Page.{Page}
-use Rattle.dp_tables.specs.Pages.{AnswersBy, IsPage}
+use Rattle.dp_history.specs.declared.page.Page.{Page}
+use Rattle.dp_history.specs.Pages.{AnswersBy, IsPage}
 use Rattle.dp_session_laws.specs.Growing.{GrowsInto}
 use Rattle.dp_session_laws.specs.Logs.{IsSessionLog, HasOpened}
 use Rattle.dp_session_laws.specs.Feeds.{Segment, IsFeed, feed_entries, IsGone, PullsOn}

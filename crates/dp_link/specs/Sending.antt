@@ -10,7 +10,7 @@ use Rattle.dp_hall.specs.Logs.{left_by}
 use Rattle.dp_epochs.specs.declared.event.Query.TheVariants.{Pull}
 use Rattle.dp_epochs.specs.Past.{Past, state_of}
 use Rattle.dp_epochs.specs.Pull.{answered}
-use Rattle.dp_tables.specs.Pages.{IsPage}
+use Rattle.dp_history.specs.Pages.{IsPage}
 use Rattle.dp_session_laws.specs.Feeds.{Segment, IsFeed, feed_entries, IsGone}
 use Rattle.dp_link.specs.declared.ends.DownEnd.{DownEnd}
 use Rattle.dp_link.specs.declared.ends.DownEnd.TheVariants as down

@@ -8,7 +8,7 @@ ghost use Rattle.dp_hall.specs.Calls.{IsOf, Asks, IsSound};
 ghost use Rattle.dp_epochs.specs.declared.event.Query.TheVariants.{Pull};
 ghost use Rattle.dp_epochs.specs.Past.{Step};
 ghost use Rattle.dp_epochs.specs.Pull.{answered};
-ghost use Rattle.dp_tables.specs.Pages.{IsPage};
+ghost use Rattle.dp_history.specs.Pages.{IsPage};
 ghost use Rattle.dp_hall.specs.Laws.{Continues};
 ghost use Rattle.dp_epochs.specs.Laws.{ShutBefore};
 ghost use Rattle.dp_session_laws.specs.Logs.{HasOpened};
@@ -16,13 +16,13 @@ ghost use Rattle.dp_link.specs.Sending.{Sends, SentTo, SendsPage, WritesPage, Fa
 ghost use Rattle.dp_link.specs.Sending.{FaultMatchesPage};
 ghost use Rattle.dp_link.specs.Sending.{session_of};
 
+use dp_any_session::{AnySession, SessionCore};
 use crate::pages::{Asked, Cursor};
 use crate::{DownEnd, Greeting};
 use dp_epochs::{Event, Reply};
 use dp_hall::{Hall, Seat, calls_add_up, seats_are_sound};
 use dp_io::{Failed, Sink, put_all};
-use dp_keeper::Keeper;
-use dp_session::{Page, PageFrames, Session};
+use dp_history::{Page, PageFrames};
 use dp_session_laws::{feeds_begin, feeds_end, feeds_go_on, pulls_go_on, sessions_go_on};
 use std::alloc::{AllocError, Global};
 use std::sync::Wait;
@@ -46,11 +46,11 @@ const LONG_REST_MILLIS: u64 = 16;
 /// Writes the entries that are to come for a connection, each as one frame. They begin with the
 /// first one of the epoch in which it joined. It waits for more if there are none, and goes on
 /// until nothing more is to come.
-pub fn pump_down<W: Wait, K: Keeper, S: Sink>(
+pub fn pump_down<W: Wait, C: SessionCore, S: Sink>(
     rt: &W,
     alloc: Global,
-    hall: &Hall<Session<K>>,
-    seat: &mut Seat<Session<K>>,
+    hall: &Hall<AnySession<C>>,
+    seat: &mut Seat<AnySession<C>>,
     tx: &mut S,
     greeting: &Greeting,
 ) -> DownEnd
@@ -64,7 +64,7 @@ pub fn pump_down<W: Wait, K: Keeper, S: Sink>(
         (S.held tx.old) (S.held tx.new) result }
     ensures fault { FaultMatchesDown result (S.faults tx.old) (S.faults tx.new) }
 {
-    calls_add_up::<Event, Result<Reply, AllocError>, Session<K>>();
+    calls_add_up::<Event, Result<Reply, AllocError>, AnySession<C>>();
     seats_are_sound(seat);
     feeds_begin();
     let mut asked = Asked {
@@ -88,10 +88,10 @@ pub fn pump_down<W: Wait, K: Keeper, S: Sink>(
 /// Writes the next page, and lets more come before the next one. If it has no entry, it waits for
 /// an act on the session. What is acted after the count, before the session is asked or after that,
 /// is not waited for.
-fn send_more<W: Wait, K: Keeper, S: Sink>(
+fn send_more<W: Wait, C: SessionCore, S: Sink>(
     rt: &W,
-    hall: &Hall<Session<K>>,
-    seat: &mut Seat<Session<K>>,
+    hall: &Hall<AnySession<C>>,
+    seat: &mut Seat<AnySession<C>>,
     tx: &mut S,
     greeting: &Greeting,
     asked: &mut Asked,
@@ -111,7 +111,7 @@ fn send_more<W: Wait, K: Keeper, S: Sink>(
         held (S.held tx.new) asked.new.cursor result }
     ensures fault { FaultMatchesPage result (S.faults tx.old) (S.faults tx.new) }
 {
-    calls_add_up::<Event, Result<Reply, AllocError>, Session<K>>();
+    calls_add_up::<Event, Result<Reply, AllocError>, AnySession<C>>();
     let seen = hall.count(seat);
     match send_page(rt, hall, seat, tx, greeting, asked) {
         Ok(true) => {
@@ -127,7 +127,7 @@ fn send_more<W: Wait, K: Keeper, S: Sink>(
 }
 
 /// Lets more entries come after a page of this number of bytes.
-fn rest_after<W: Wait, K: Keeper>(rt: &W, hall: &Hall<Session<K>>, bytes: usize) {
+fn rest_after<W: Wait, C: SessionCore>(rt: &W, hall: &Hall<AnySession<C>>, bytes: usize) {
     if bytes < FEW_BYTES {
         hall.rest(rt, Duration::from_micros(SHORT_REST_MICROS));
     } else if bytes < MANY_BYTES {
@@ -136,10 +136,10 @@ fn rest_after<W: Wait, K: Keeper>(rt: &W, hall: &Hall<Session<K>>, bytes: usize)
 }
 
 /// Asks for the next page, and writes it. Whether it has an entry.
-fn send_page<W: Wait, K: Keeper, S: Sink>(
+fn send_page<W: Wait, C: SessionCore, S: Sink>(
     rt: &W,
-    hall: &Hall<Session<K>>,
-    seat: &mut Seat<Session<K>>,
+    hall: &Hall<AnySession<C>>,
+    seat: &mut Seat<AnySession<C>>,
     tx: &mut S,
     greeting: &Greeting,
     asked: &mut Asked,
@@ -159,7 +159,7 @@ fn send_page<W: Wait, K: Keeper, S: Sink>(
         held (S.held tx.new) asked.new.cursor result }
     ensures fault { FaultMatchesPage result (S.faults tx.old) (S.faults tx.new) }
 {
-    calls_add_up::<Event, Result<Reply, AllocError>, Session<K>>();
+    calls_add_up::<Event, Result<Reply, AllocError>, AnySession<C>>();
     sessions_go_on();
     feeds_go_on();
     pulls_go_on();
@@ -172,10 +172,10 @@ fn send_page<W: Wait, K: Keeper, S: Sink>(
 }
 
 /// Asks for the page that begins at the cursor.
-fn ask_page<W: Wait, K: Keeper>(
+fn ask_page<W: Wait, C: SessionCore>(
     rt: &W,
-    hall: &Hall<Session<K>>,
-    seat: &mut Seat<Session<K>>,
+    hall: &Hall<AnySession<C>>,
+    seat: &mut Seat<AnySession<C>>,
     asked: &mut Asked,
 ) -> Result<Option<Page>, AllocError>
     requires of { IsOf hall.now seat.old }

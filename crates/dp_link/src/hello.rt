@@ -11,6 +11,7 @@ ghost use Rattle.dp_link.specs.Hello.{Greets, FaultMatchesHello, Answers, ReadsN
 ghost use Rattle.dp_link.specs.Hello.{NameOf, Welcomes, RefusesBy, FaultMatchesRefusal};
 ghost use Rattle.dp_link.specs.Hello.{FaultMatchesWelcome};
 
+use dp_any_session::{AnySession, SessionCore};
 use crate::acting::{Worker, act_once};
 use crate::answers::{put_goodbye, put_welcome, reason_of};
 use crate::reading::{greet_end_of, reader_of};
@@ -19,10 +20,8 @@ use dp_epochs::{Event, Reply};
 use dp_frame::Octets;
 use dp_hall::{Seat, calls_add_up};
 use dp_io::{Failed, Sink, Source};
-use dp_keeper::Keeper;
 use dp_messages::{Entry, Msg, one_answer};
 use dp_msg_meta::Control;
-use dp_session::Session;
 use dp_split::Splitter;
 use dp_wire::Gate;
 use std::alloc::{AllocError, Global};
@@ -38,9 +37,9 @@ use std::sync::Wait;
 /// is written. `Refused` carries the answer to the Open. After `WriteFault` a painter who had
 /// joined has left again, and a prefix of the answer was written. `Memory` comes before the Open,
 /// or if the Open was refused for it, and nothing is written.
-pub fn greet<W: Wait, K: Keeper, R: Source, S: Sink, G: Gate>(
-    worker: &Worker<'_, W, K, G>,
-    seat: &mut Seat<Session<K>>,
+pub fn greet<W: Wait, C: SessionCore, R: Source, S: Sink, G: Gate>(
+    worker: &Worker<'_, W, C, G>,
+    seat: &mut Seat<AnySession<C>>,
     rx: &mut R,
     tx: &mut S,
     split: &mut Splitter,
@@ -66,9 +65,9 @@ pub struct GreetRun {
 }
 
 /// Greets as `greet` does, and also gives what came of the last act.
-pub fn run_greet<W: Wait, K: Keeper, R: Source, S: Sink, G: Gate>(
-    worker: &Worker<'_, W, K, G>,
-    seat: &mut Seat<Session<K>>,
+pub fn run_greet<W: Wait, C: SessionCore, R: Source, S: Sink, G: Gate>(
+    worker: &Worker<'_, W, C, G>,
+    seat: &mut Seat<AnySession<C>>,
     rx: &mut R,
     tx: &mut S,
     split: &mut Splitter,
@@ -84,7 +83,7 @@ pub fn run_greet<W: Wait, K: Keeper, R: Source, S: Sink, G: Gate>(
     ensures fault { FaultMatchesHello result.end (R.faults rx.old) (R.faults rx.new)
         (S.faults tx.old) (S.faults tx.new) }
 {
-    calls_add_up::<Event, Result<Reply, AllocError>, Session<K>>();
+    calls_add_up::<Event, Result<Reply, AllocError>, AnySession<C>>();
     match read_name(worker.alloc, rx, split) {
         Ok(name) => answer(worker, seat, tx, name),
         Err(end) => GreetRun {
@@ -137,9 +136,9 @@ fn name_of(alloc: Global, msg: &Msg) -> Result<Octets, GreetEnd>
 }
 
 /// Acts an Open by the name, and writes the answer.
-fn answer<W: Wait, K: Keeper, S: Sink, G: Gate>(
-    worker: &Worker<'_, W, K, G>,
-    seat: &mut Seat<Session<K>>,
+fn answer<W: Wait, C: SessionCore, S: Sink, G: Gate>(
+    worker: &Worker<'_, W, C, G>,
+    seat: &mut Seat<AnySession<C>>,
     tx: &mut S,
     name: Octets,
 ) -> GreetRun
@@ -159,9 +158,9 @@ fn answer<W: Wait, K: Keeper, S: Sink, G: Gate>(
 }
 
 /// Writes the answer to an Open that had this reply.
-fn answer_reply<W: Wait, K: Keeper, S: Sink, G: Gate>(
-    worker: &Worker<'_, W, K, G>,
-    seat: &mut Seat<Session<K>>,
+fn answer_reply<W: Wait, C: SessionCore, S: Sink, G: Gate>(
+    worker: &Worker<'_, W, C, G>,
+    seat: &mut Seat<AnySession<C>>,
     tx: &mut S,
     reply: Reply,
 ) -> GreetRun
@@ -174,7 +173,7 @@ fn answer_reply<W: Wait, K: Keeper, S: Sink, G: Gate>(
         × (last_outcome h.acts ≡ result.last) }
     ensures fault { FaultMatchesHello result.end 0 0 (S.faults tx.old) (S.faults tx.new) }
 {
-    calls_add_up::<Event, Result<Reply, AllocError>, Session<K>>();
+    calls_add_up::<Event, Result<Reply, AllocError>, AnySession<C>>();
     let last = Some(Ok(reply));
     match reply {
         Reply::Opened {
@@ -208,9 +207,9 @@ fn answer_reply<W: Wait, K: Keeper, S: Sink, G: Gate>(
 }
 
 /// Acts an Open by the name.
-fn open<W: Wait, K: Keeper, G: Gate>(
-    worker: &Worker<'_, W, K, G>,
-    seat: &mut Seat<Session<K>>,
+fn open<W: Wait, C: SessionCore, G: Gate>(
+    worker: &Worker<'_, W, C, G>,
+    seat: &mut Seat<AnySession<C>>,
     name: Octets,
 ) -> Result<Reply, AllocError>
     requires { IsOf worker.now.hall.now seat.old }
@@ -227,9 +226,9 @@ fn open<W: Wait, K: Keeper, G: Gate>(
 
 /// Writes the Welcome. If that fails the connection is closed, and the error is what came of the
 /// Close.
-fn welcome<W: Wait, K: Keeper, S: Sink, G: Gate>(
-    worker: &Worker<'_, W, K, G>,
-    seat: &mut Seat<Session<K>>,
+fn welcome<W: Wait, C: SessionCore, S: Sink, G: Gate>(
+    worker: &Worker<'_, W, C, G>,
+    seat: &mut Seat<AnySession<C>>,
     tx: &mut S,
     greeting: &Greeting,
 ) -> Result<(), Result<Reply, AllocError>>
@@ -239,7 +238,7 @@ fn welcome<W: Wait, K: Keeper, S: Sink, G: Gate>(
         greeting.now result }
     ensures fault { FaultMatchesWelcome result (S.faults tx.old) (S.faults tx.new) }
 {
-    calls_add_up::<Event, Result<Reply, AllocError>, Session<K>>();
+    calls_add_up::<Event, Result<Reply, AllocError>, AnySession<C>>();
     match put_welcome(tx, greeting) {
         Ok(()) => Ok(()),
         Err(Failed) => {

@@ -10,13 +10,12 @@ ghost use Rattle.dp_link.specs.Acts.{SeatView};
 ghost use Rattle.dp_session_laws.specs.Logs.{LogEntry};
 ghost use Rattle.dp_link.specs.Hello.{Greets};
 
+use dp_any_session::{AnySession, SessionCore};
 use dp_hall::{Seat, seats_are_sound};
-use dp_keeper::Keeper;
-use dp_session::Session;
 
 /// Who was greeted was opened in the log that the seat has seen, and so in each longer one: its
 /// entries may be sent.
-pub fn greetings_are_seen<K: Keeper>(seat: &Seat<Session<K>>)
+pub fn greetings_are_seen<C: SessionCore>(seat: &Seat<AnySession<C>>)
     ensures greeted { (before : SeatView) (left unread held taken : Option (List ℕ))
         (stream : Stream) (greeting : Greeted)
         → Greets before seat.now.view left unread held taken stream (Ok greeting)

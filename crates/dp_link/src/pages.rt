@@ -2,9 +2,9 @@
 
 ghost use Rattle.dp_link.specs.Sending.{SeesPage};
 
+use dp_any_session::{AnySession, SessionCore};
 use dp_hall::Look;
-use dp_keeper::Keeper;
-use dp_session::{Page, PageFrames, Session};
+use dp_history::{Page, PageFrames};
 use std::alloc::AllocError;
 
 /// Where the next entry for a peer stands.
@@ -24,10 +24,10 @@ pub(crate) struct Asked {
     pub page: Result<Option<Page>, AllocError>,
 }
 
-impl<K: Keeper> Look<Session<K>> for Asked {
+impl<C: SessionCore> Look<AnySession<C>> for Asked {
     ghost sees = { SeesPage };
 
-    fn look(&mut self, session: &Session<K>) {
+    fn look(&mut self, session: &AnySession<C>) {
         let Cursor { epoch, at } = self.cursor;
         self.page = session.put_page(self.conn, epoch, at, &mut self.frames);
     }

@@ -21,6 +21,7 @@ ghost use Rattle.dp_io.specs.Limits.{stream_limit};
 ghost use Rattle.dp_link.specs.Saying.{SaysAll, SaysNext, SaidSoFar, SaidToEnd};
 ghost use Rattle.dp_link.specs.Saying.{FaultMatchesSay, FaultMatchesUp, messages_of};
 
+use dp_any_session::{AnySession, SessionCore};
 use crate::UpEnd;
 use crate::acting::{Worker, act_once};
 use crate::reading::{reader_of, up_end_of};
@@ -28,9 +29,7 @@ use dp_entries::{Anywhere, EntryReader};
 use dp_epochs::{Event, Reply};
 use dp_hall::{Acted, Listener, Seat, calls_add_up};
 use dp_io::Source;
-use dp_keeper::Keeper;
 use dp_messages::{Entry, one_answer};
-use dp_session::Session;
 use dp_split::Splitter;
 use dp_wire::Gate;
 use std::alloc::{AllocError, Global};
@@ -46,9 +45,9 @@ pub struct UpRun {
 /// Acts a Say for each message of a link, and in the end a Close, whatever the end. The link begins
 /// with what the splitter holds. Pieces of at most 4096 bytes are read, and only if no whole
 /// frame is held. Of a link the first 2^30 bytes count.
-pub fn pump_up<W: Wait, K: Keeper, R: Source, G: Gate>(
-    worker: &Worker<'_, W, K, G>,
-    seat: &mut Seat<Session<K>>,
+pub fn pump_up<W: Wait, C: SessionCore, R: Source, G: Gate>(
+    worker: &Worker<'_, W, C, G>,
+    seat: &mut Seat<AnySession<C>>,
     rx: &mut R,
     split: &mut Splitter,
     conn: u32,
@@ -65,9 +64,9 @@ pub fn pump_up<W: Wait, K: Keeper, R: Source, G: Gate>(
 }
 
 /// Pumps as `pump_up` does, and also gives what the Close was answered.
-pub fn run_up<W: Wait, K: Keeper, R: Source, G: Gate>(
-    worker: &Worker<'_, W, K, G>,
-    seat: &mut Seat<Session<K>>,
+pub fn run_up<W: Wait, C: SessionCore, R: Source, G: Gate>(
+    worker: &Worker<'_, W, C, G>,
+    seat: &mut Seat<AnySession<C>>,
     rx: &mut R,
     split: &mut Splitter,
     conn: u32,
@@ -80,7 +79,7 @@ pub fn run_up<W: Wait, K: Keeper, R: Source, G: Gate>(
     ensures at_end { result.end ≡ UpEnd.End → IsAtEnd (R.left rx.new) }
     ensures fault { FaultMatchesUp result.end (R.faults rx.old) (R.faults rx.new) }
 {
-    calls_add_up::<Event, Result<Reply, AllocError>, Session<K>>();
+    calls_add_up::<Event, Result<Reply, AllocError>, AnySession<C>>();
     let mut speaker = Speaker {
         conn,
         acts: 1,
@@ -116,9 +115,9 @@ fn pass_acts<G: Gate>(gate: &G, who: u32, acts: &mut u64, count: usize) {
 }
 
 /// Says the messages of a link to its end.
-fn say_all<W: Wait, K: Keeper, R: Source, G: Gate>(
-    worker: &Worker<'_, W, K, G>,
-    seat: &mut Seat<Session<K>>,
+fn say_all<W: Wait, C: SessionCore, R: Source, G: Gate>(
+    worker: &Worker<'_, W, C, G>,
+    seat: &mut Seat<AnySession<C>>,
     rx: &mut R,
     split: &mut Splitter,
     speaker: &mut Speaker,
@@ -131,7 +130,7 @@ fn say_all<W: Wait, K: Keeper, R: Source, G: Gate>(
     ensures at_end { result ≡ UpEnd.End → IsAtEnd (R.left rx.new) }
     ensures fault { FaultMatchesUp result (R.faults rx.old) (R.faults rx.new) }
 {
-    calls_add_up::<Event, Result<Reply, AllocError>, Session<K>>();
+    calls_add_up::<Event, Result<Reply, AllocError>, AnySession<C>>();
     let mut link = reader_of(worker.alloc, split);
     'messages: loop {
         match say_next(worker, seat, rx, &mut link, speaker) {
@@ -143,9 +142,9 @@ fn say_all<W: Wait, K: Keeper, R: Source, G: Gate>(
 
 /// Says the next messages of a link: those that it holds whole, and if it holds none those of the
 /// next pieces.
-fn say_next<W: Wait, K: Keeper, R: Source, G: Gate>(
-    worker: &Worker<'_, W, K, G>,
-    seat: &mut Seat<Session<K>>,
+fn say_next<W: Wait, C: SessionCore, R: Source, G: Gate>(
+    worker: &Worker<'_, W, C, G>,
+    seat: &mut Seat<AnySession<C>>,
     rx: &mut R,
     link: &mut EntryReader<Anywhere>,
     speaker: &mut Speaker,
@@ -172,9 +171,9 @@ fn say_next<W: Wait, K: Keeper, R: Source, G: Gate>(
 }
 
 /// Says the messages that a link holds whole, up to a Disconnect. They are heard before the turn.
-fn say_held<W: Wait, K: Keeper, G: Gate>(
-    worker: &Worker<'_, W, K, G>,
-    seat: &mut Seat<Session<K>>,
+fn say_held<W: Wait, C: SessionCore, G: Gate>(
+    worker: &Worker<'_, W, C, G>,
+    seat: &mut Seat<AnySession<C>>,
     link: &mut EntryReader<Anywhere>,
     speaker: &mut Speaker,
 ) -> Result<(), UpEnd>
@@ -192,7 +191,7 @@ fn say_held<W: Wait, K: Keeper, G: Gate>(
     ensures not_end { result ≢ Err UpEnd.End }
     ensures fault { (n : ℕ) → FaultMatchesSay result n n }
 {
-    calls_add_up::<Event, Result<Reply, AllocError>, Session<K>>();
+    calls_add_up::<Event, Result<Reply, AllocError>, AnySession<C>>();
     let heard = hear(worker.alloc, link, speaker.conn, &mut speaker.says);
     let stop = say(worker, seat, speaker);
     end_by(stop, heard)
@@ -284,9 +283,9 @@ fn note(entry: Entry, conn: u32, says: &mut Vec<Event>) -> Result<bool, AllocErr
 
 /// Acts the Says that were heard in one turn, up to one after which nothing is said, and gives what
 /// came of that one. It wakes those who wait for entries before it passes the gate.
-fn say<W: Wait, K: Keeper, G: Gate>(
-    worker: &Worker<'_, W, K, G>,
-    seat: &mut Seat<Session<K>>,
+fn say<W: Wait, C: SessionCore, G: Gate>(
+    worker: &Worker<'_, W, C, G>,
+    seat: &mut Seat<AnySession<C>>,
     speaker: &mut Speaker,
 ) -> Option<Result<Reply, AllocError>>
     requires { IsOf worker.now.hall.now seat.old }
@@ -294,7 +293,7 @@ fn say<W: Wait, K: Keeper, G: Gate>(
     ensures conn { speaker.new.conn ≡ speaker.old.conn }
     ensures acts { ActsSays seat.old.view speaker.old.says.items result seat.new.view }
 {
-    calls_add_up::<Event, Result<Reply, AllocError>, Session<K>>();
+    calls_add_up::<Event, Result<Reply, AllocError>, AnySession<C>>();
     let mut answers = Answers { placed: false };
     let Acted { count, stop } = worker
         .hall
@@ -312,7 +311,7 @@ struct Answers {
     placed: bool,
 }
 
-impl<K: Keeper> Listener<Session<K>> for Answers {
+impl<C: SessionCore> Listener<AnySession<C>> for Answers {
     ghost follows = { is_kept };
 
     fn hear(&mut self, outcome: &Result<Reply, AllocError>) -> bool {

@@ -6,16 +6,15 @@ ghost use Rattle.dp_session_laws.specs.Journals.{is_kept};
 ghost use Rattle.dp_serve.specs.Talking.{is_last_failed, is_last_store_fault};
 ghost use Rattle.dp_serve.specs.Closings.{ClosesEach, open_numbers};
 
+use dp_any_session::{AnySession, SessionCore};
 use dp_epochs::{Event, Reply, steps_lead_on};
-use dp_keeper::Keeper;
 use dp_machine::Machine;
-use dp_session::Session;
 use dp_session_laws::sessions_go_on;
 use std::alloc::AllocError;
 
 /// Closes the connections that are open, by rising number, up to the first Close that is refused,
 /// and tells what that one came to.
-pub(crate) fn close_open<K: Keeper>(session: &mut Session<K>) -> Option<Result<Reply, AllocError>>
+pub(crate) fn close_open<C: SessionCore>(session: &mut AnySession<C>) -> Option<Result<Reply, AllocError>>
     requires { ShutBefore session.old }
     ensures sound { ShutBefore session.new }
     ensures closes { ClosesEach session.old (open_numbers session.old) result session.new }

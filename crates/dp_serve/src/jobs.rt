@@ -10,14 +10,13 @@ ghost use Rattle.dp_crew.specs.Gathering.{Gathers, IsFirst, all_reports};
 ghost use Rattle.dp_serve.specs.Links.{link_seen};
 ghost use Rattle.dp_serve.specs.Works.{session_rules};
 
+use dp_any_session::{AnySession, SessionCore};
 use crate::LinkReport;
 use crate::told::Told;
 use crate::worker::run_worker;
 use dp_crew::{Flags, Job, Ran, gather_jobs, make_jobs};
 use dp_hall::{Hall, Seat};
-use dp_keeper::Keeper;
 use dp_link::Worker;
-use dp_session::Session;
 use dp_wire::{Gate, Wire};
 use std::alloc::Global;
 use std::sync::Wait;
@@ -28,10 +27,10 @@ pub type Reports = dp_crew::Reports<LinkReport>;
 
 /// What workers share: threads and memory, the hall of the session, and the gate that they pass.
 #[derive(Drop)]
-pub(crate) struct Crew<'a, R, K: Keeper, G> {
+pub(crate) struct Crew<'a, R, C: SessionCore, G> {
     pub(crate) rt: &'a R,
     pub(crate) alloc: Global,
-    pub(crate) hall: &'a Hall<Session<K>>,
+    pub(crate) hall: &'a Hall<AnySession<C>>,
     pub(crate) gate: &'a G,
 }
 
@@ -39,9 +38,9 @@ pub(crate) struct Crew<'a, R, K: Keeper, G> {
 /// of them. The seats are joined into the given one, which has acted nothing yet.
 ///
 /// If memory runs out, a worker ends or doesn't begin, and the flag says so.
-pub(crate) fn run_workers<W: Wire + Send, K: Keeper + Send, G: Gate, R: Threads + Wait + Sync>(
-    crew: &Crew<'_, R, K, G>,
-    seat: &mut Seat<Session<K>>,
+pub(crate) fn run_workers<W: Wire + Send, C: SessionCore + Send, G: Gate, R: Threads + Wait + Sync>(
+    crew: &Crew<'_, R, C, G>,
+    seat: &mut Seat<AnySession<C>>,
     wires: Vec<W>,
     conns: Option<u32>,
 ) -> Ran<W, LinkReport>
@@ -84,11 +83,11 @@ pub(crate) fn run_workers<W: Wire + Send, K: Keeper + Send, G: Gate, R: Threads 
 
 /// Runs a worker for each wire, and gathers what they did. There is room for their jobs and for
 /// their lists of reports.
-fn run_all<W: Wire + Send, K: Keeper + Send, G: Gate, R: Threads + Wait + Sync>(
-    crew: &Crew<'_, R, K, G>,
-    seat: &mut Seat<Session<K>>,
+fn run_all<W: Wire + Send, C: SessionCore + Send, G: Gate, R: Threads + Wait + Sync>(
+    crew: &Crew<'_, R, C, G>,
+    seat: &mut Seat<AnySession<C>>,
     wires: &mut Vec<W>,
-    jobs: Vec<Job<W, Session<K>, LinkReport>>,
+    jobs: Vec<Job<W, AnySession<C>, LinkReport>>,
     lists: &mut Vec<Vec<LinkReport>>,
     conns: Option<u32>,
 ) -> Flags
@@ -110,17 +109,17 @@ fn run_all<W: Wire + Send, K: Keeper + Send, G: Gate, R: Threads + Wait + Sync>(
     let mut jobs = jobs;
     make_jobs(crew.alloc, crew.hall, seat, wires, &mut jobs);
     run_jobs(crew.rt, crew.alloc, crew.hall, &mut jobs, conns, crew.gate);
-    let flags = gather_jobs::<W, Session<K>, Told>(crew.hall, seat, &mut jobs, wires, lists);
+    let flags = gather_jobs::<W, AnySession<C>, Told>(crew.hall, seat, &mut jobs, wires, lists);
     jobs.destroy_empty();
     flags
 }
 
 /// Runs the workers of the jobs, all at the same time if threads can be made.
-fn run_jobs<W: Wire + Send, K: Keeper + Send, G: Gate, R: Threads + Wait + Sync>(
+fn run_jobs<W: Wire + Send, C: SessionCore + Send, G: Gate, R: Threads + Wait + Sync>(
     rt: &R,
     alloc: Global,
-    hall: &Hall<Session<K>>,
-    jobs: &mut [Job<W, Session<K>, LinkReport>],
+    hall: &Hall<AnySession<C>>,
+    jobs: &mut [Job<W, AnySession<C>, LinkReport>],
     conns: Option<u32>,
     gate: &G,
 )
@@ -138,7 +137,7 @@ fn run_jobs<W: Wire + Send, K: Keeper + Send, G: Gate, R: Threads + Wait + Sync>
         rt,
         jobs,
         threads,
-        &|_, job: &mut Job<W, Session<K>, LinkReport>|
+        &|_, job: &mut Job<W, AnySession<C>, LinkReport>|
             requires { IfSome job.now.seat (IsOf hall.now) × ShutBefore hall.now.start }
             ensures { RanJob
                 (session_rules (link_seen W.Rx.left W.Rx.faults W.Tx.held W.Tx.faults))
@@ -149,11 +148,11 @@ fn run_jobs<W: Wire + Send, K: Keeper + Send, G: Gate, R: Threads + Wait + Sync>
 }
 
 /// Runs the worker of a job.
-fn run_job<W: Wire, K: Keeper + Send, G: Gate, R: Threads + Wait + Sync>(
+fn run_job<W: Wire, C: SessionCore + Send, G: Gate, R: Threads + Wait + Sync>(
     rt: &R,
     alloc: Global,
-    hall: &Hall<Session<K>>,
-    job: &mut Job<W, Session<K>, LinkReport>,
+    hall: &Hall<AnySession<C>>,
+    job: &mut Job<W, AnySession<C>, LinkReport>,
     conns: Option<u32>,
     gate: &G,
 )

@@ -14,15 +14,14 @@ ghost use Rattle.dp_serve.specs.Links.{is_up_memory, is_down_memory, is_failed, 
 ghost use Rattle.dp_serve.specs.Talking.{WasServed, Talks, is_store_end, is_last_failed};
 ghost use Rattle.dp_serve.specs.Talking.{is_last_store_fault};
 
+use dp_any_session::{AnySession, SessionCore};
 use crate::pumps::{Pumped, run_pumps};
 use dp_epochs::{Event, Reply};
 use dp_hall::{Seat, calls_add_up, seats_are_sound, seats_come_back, seats_rejoin};
 use dp_io::{Sink, Source};
-use dp_keeper::Keeper;
 use dp_link::{
     DownEnd, GreetEnd, GreetRun, Greeting, UpEnd, UpRun, Worker, greetings_are_seen, run_greet,
 };
-use dp_session::Session;
 use dp_session_laws::{feeds_begin, feeds_go_on, gone_goes_on, sessions_go_on};
 use dp_split::Splitter;
 use dp_wire::Gate;
@@ -89,11 +88,11 @@ pub(crate) struct ServedLink<R, S> {
 /// is to get, to the end of both.
 pub(crate) fn serve_link<
     W: Threads + Wait + Sync,
-    K: Keeper + Send,
+    C: SessionCore + Send,
     R: Source + Send,
     S: Sink + Send,
     G: Gate,
->(worker: &Worker<'_, W, K, G>, seat: &mut Seat<Session<K>>, rx: R, tx: S) -> ServedLink<R, S>
+>(worker: &Worker<'_, W, C, G>, seat: &mut Seat<AnySession<C>>, rx: R, tx: S) -> ServedLink<R, S>
     requires of { IsOf worker.now.hall.now seat.old }
     requires start { ShutBefore worker.now.hall.now.start }
     ensures of { IsOf worker.now.hall.now seat.new }
@@ -101,8 +100,8 @@ pub(crate) fn serve_link<
         seat.new.view result.end (link_seen R.left R.faults S.held S.faults (rx, tx))
         (link_seen R.left R.faults S.held S.faults (result.rx, result.tx)) }
 {
-    calls_add_up::<Event, Result<Reply, AllocError>, Session<K>>();
-    seats_come_back::<Event, Result<Reply, AllocError>, Session<K>>();
+    calls_add_up::<Event, Result<Reply, AllocError>, AnySession<C>>();
+    seats_come_back::<Event, Result<Reply, AllocError>, AnySession<C>>();
     let mut rx = rx;
     let mut tx = tx;
     let mut split = Splitter::new(worker.alloc);
@@ -121,9 +120,9 @@ pub(crate) fn serve_link<
 
 /// Serves a painter who was greeted, on two seats. If there is no second one, the painter leaves
 /// at once.
-fn talk<W: Threads + Wait + Sync, K: Keeper + Send, R: Source + Send, S: Sink + Send, G: Gate>(
-    worker: &Worker<'_, W, K, G>,
-    seat: &mut Seat<Session<K>>,
+fn talk<W: Threads + Wait + Sync, C: SessionCore + Send, R: Source + Send, S: Sink + Send, G: Gate>(
+    worker: &Worker<'_, W, C, G>,
+    seat: &mut Seat<AnySession<C>>,
     rx: R,
     tx: S,
     split: Splitter,
@@ -140,9 +139,9 @@ fn talk<W: Threads + Wait + Sync, K: Keeper + Send, R: Source + Send, S: Sink + 
         (link_seen R.left R.faults S.held S.faults (rx, tx))
         (link_seen R.left R.faults S.held S.faults (result.rx, result.tx)) }
 {
-    calls_add_up::<Event, Result<Reply, AllocError>, Session<K>>();
-    seats_rejoin::<Event, Result<Reply, AllocError>, Session<K>>();
-    seats_come_back::<Event, Result<Reply, AllocError>, Session<K>>();
+    calls_add_up::<Event, Result<Reply, AllocError>, AnySession<C>>();
+    seats_rejoin::<Event, Result<Reply, AllocError>, AnySession<C>>();
+    seats_come_back::<Event, Result<Reply, AllocError>, AnySession<C>>();
     feeds_begin();
     sessions_go_on();
     feeds_go_on();
@@ -161,16 +160,16 @@ fn talk<W: Threads + Wait + Sync, K: Keeper + Send, R: Source + Send, S: Sink + 
 }
 
 /// Acts a Close of the connection, the second act of its link.
-fn leave<W: Wait, K: Keeper, G: Gate>(
-    worker: &Worker<'_, W, K, G>,
-    seat: &mut Seat<Session<K>>,
+fn leave<W: Wait, C: SessionCore, G: Gate>(
+    worker: &Worker<'_, W, C, G>,
+    seat: &mut Seat<AnySession<C>>,
     conn: u32,
 ) -> Result<Reply, AllocError>
     requires { IsOf worker.now.hall.now seat.old }
     ensures of { IsOf worker.now.hall.now seat.new }
     ensures acts { ActsOnce seat.old.view (Event.Close conn) result seat.new.view }
 {
-    calls_add_up::<Event, Result<Reply, AllocError>, Session<K>>();
+    calls_add_up::<Event, Result<Reply, AllocError>, AnySession<C>>();
     let outcome = worker.hall.act(worker.rt, seat, &Event::Close { conn });
     worker.gate.pass(worker.who, 2);
     outcome

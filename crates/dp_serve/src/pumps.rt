@@ -13,11 +13,10 @@ ghost use Rattle.dp_link.specs.declared.ends.UpEnd.TheVariants.{End};
 ghost use Rattle.dp_serve.specs.Links.{link_seen};
 ghost use Rattle.dp_serve.specs.Talking.{Pumps};
 
+use dp_any_session::{AnySession, SessionCore};
 use dp_hall::Seat;
 use dp_io::{Sink, Source};
-use dp_keeper::Keeper;
 use dp_link::{DownEnd, Greeting, UpRun, Worker, pump_down, run_up};
-use dp_session::Session;
 use dp_split::Splitter;
 use dp_wire::Gate;
 use std::sync::Wait;
@@ -34,14 +33,14 @@ pub(crate) struct Pumped<R, S> {
 /// Runs both pumps, each on one of the two seats, and joins the second seat into the first.
 pub(crate) fn run_pumps<
     W: Threads + Wait + Sync,
-    K: Keeper + Send,
+    C: SessionCore + Send,
     R: Source + Send,
     S: Sink + Send,
     G: Gate,
 >(
-    worker: &Worker<'_, W, K, G>,
-    seat: &mut Seat<Session<K>>,
-    other: Seat<Session<K>>,
+    worker: &Worker<'_, W, C, G>,
+    seat: &mut Seat<AnySession<C>>,
+    other: Seat<AnySession<C>>,
     rx: R,
     tx: S,
     split: Splitter,
@@ -75,14 +74,14 @@ pub(crate) fn run_pumps<
 fn run_both<
     'a,
     W: Threads + Wait + Sync,
-    K: Keeper + Send,
+    C: SessionCore + Send,
     R: Source + Send,
     S: Sink + Send,
     G: Gate,
 >(
-    worker: &'a Worker<'a, W, K, G>,
-    seat: &mut Seat<Session<K>>,
-    other: &mut Seat<Session<K>>,
+    worker: &'a Worker<'a, W, C, G>,
+    seat: &mut Seat<AnySession<C>>,
+    other: &mut Seat<AnySession<C>>,
     rx: &mut R,
     tx: &mut S,
     split: &mut Splitter,

@@ -8,6 +8,7 @@ ghost use Rattle.dp_serve.specs.Links.{link_seen};
 ghost use Rattle.dp_serve.specs.Serving.{Serves};
 ghost use Rattle.dp_serve.specs.Closings.{ServesOn, ClosesTo};
 
+use dp_any_session::{AnySession, SessionCore};
 use crate::LinkReport;
 use crate::closings::{broke, close_open, ran_out};
 use crate::jobs::{Crew, Reports, run_workers};
@@ -16,7 +17,6 @@ use dp_crew::{Flags, Ran, crews_add_up};
 use dp_epochs::{Journal, Shut};
 use dp_hall::{Hall, HallError, Seat};
 use dp_keeper::Keeper;
-use dp_session::Session;
 use dp_session_laws::journals_are_logs;
 use dp_wire::{Gate, Wire};
 use std::alloc::Global;
@@ -50,14 +50,14 @@ pub struct Served<W, K: Keeper> {
 /// its wire fails. It waits for all of them. Each link that a wire handed out is handed back.
 ///
 /// If memory runs out, a worker ends or doesn't begin, and `memory` says so.
-pub fn serve<W: Wire + Send, K: Keeper + Send, G: Gate, R: Threads + Wait + Sync>(
+pub fn serve<W: Wire + Send, C: SessionCore + Send, G: Gate, R: Threads + Wait + Sync>(
     rt: &R,
     alloc: Global,
-    session: Session<K>,
+    session: AnySession<C>,
     wires: Vec<W>,
     conns: Option<u32>,
     gate: &G,
-) -> Served<W, K>
+) -> Served<W, C::Store>
     requires few { length wires.items ≤ 64 }
     requires sound { ShutBefore session }
     ensures { ServesOn (record {
@@ -68,9 +68,9 @@ pub fn serve<W: Wire + Send, K: Keeper + Send, G: Gate, R: Threads + Wait + Sync
         (record {
           journal = result.journal;
           shut = result.shut;
-          known = K.held result.keeper;
-          count = K.put_faults result.keeper;
-          read_faults = K.read_faults result.keeper;
+          known = C.Store.held result.keeper;
+          count = C.Store.put_faults result.keeper;
+          read_faults = C.Store.read_faults result.keeper;
           reports = result.reports;
           memory = result.memory;
           store = result.store;
@@ -104,14 +104,14 @@ pub fn serve<W: Wire + Send, K: Keeper + Send, G: Gate, R: Threads + Wait + Sync
 }
 
 /// Serves a session as it is: a worker for each wire.
-fn serve_wires<W: Wire + Send, K: Keeper + Send, G: Gate, R: Threads + Wait + Sync>(
+fn serve_wires<W: Wire + Send, C: SessionCore + Send, G: Gate, R: Threads + Wait + Sync>(
     rt: &R,
     alloc: Global,
-    session: Session<K>,
+    session: AnySession<C>,
     wires: Vec<W>,
     conns: Option<u32>,
     gate: &G,
-) -> Served<W, K>
+) -> Served<W, C::Store>
     requires few { length wires.items ≤ 64 }
     requires sound { ShutBefore session }
     ensures { Serves (record {
@@ -122,9 +122,9 @@ fn serve_wires<W: Wire + Send, K: Keeper + Send, G: Gate, R: Threads + Wait + Sy
         (record {
           journal = result.journal;
           shut = result.shut;
-          known = K.held result.keeper;
-          count = K.put_faults result.keeper;
-          read_faults = K.read_faults result.keeper;
+          known = C.Store.held result.keeper;
+          count = C.Store.put_faults result.keeper;
+          read_faults = C.Store.read_faults result.keeper;
           reports = result.reports;
           memory = result.memory;
           store = result.store;
@@ -132,7 +132,7 @@ fn serve_wires<W: Wire + Send, K: Keeper + Send, G: Gate, R: Threads + Wait + Sy
         }) }
 {
     journals_are_logs();
-    crews_add_up::<W, Session<K>, W::Rx, W::Tx, Told>();
+    crews_add_up::<W, AnySession<C>, W::Rx, W::Tx, Told>();
     match Hall::start(alloc, session) {
         Ok((hall, mut seat)) => {
             let crew = Crew {
@@ -149,14 +149,14 @@ fn serve_wires<W: Wire + Send, K: Keeper + Send, G: Gate, R: Threads + Wait + Sy
 }
 
 /// What is left if memory ran out before a worker began.
-fn serve_nothing<W: Wire, K: Keeper>(
+fn serve_nothing<W: Wire, C: SessionCore>(
     alloc: Global,
-    session: Session<K>,
+    session: AnySession<C>,
     wires: Vec<W>,
-) -> Served<W, K>
-    ensures parts { (K.held result.keeper ≡ session.known)
-        × (K.put_faults result.keeper ≡ session.count)
-        × (K.read_faults result.keeper ≡ session.read_faults) × (result.journal ≡ session.journal)
+) -> Served<W, C::Store>
+    ensures parts { (C.Store.held result.keeper ≡ session.known)
+        × (C.Store.put_faults result.keeper ≡ session.count)
+        × (C.Store.read_faults result.keeper ≡ session.read_faults) × (result.journal ≡ session.journal)
         × (result.shut ≡ session.shut) }
     ensures wires { result.wires.items ≡ wires.items }
     ensures reports { result.reports ≡ [] }
@@ -176,19 +176,19 @@ fn serve_nothing<W: Wire, K: Keeper>(
 }
 
 /// Closes the hall, and puts together what is left.
-fn finish<W: Wire, K: Keeper>(
-    hall: Hall<Session<K>>,
-    seat: Seat<Session<K>>,
+fn finish<W: Wire, C: SessionCore>(
+    hall: Hall<AnySession<C>>,
+    seat: Seat<AnySession<C>>,
     ran: Ran<W, LinkReport>,
-) -> Served<W, K>
+) -> Served<W, C::Store>
     requires of { IsOf hall seat }
     requires alone { IsAlone seat.view }
     ensures closes { ClosesTo hall.start seat.view (record {
       journal = result.journal;
       shut = result.shut;
-      known = K.held result.keeper;
-      count = K.put_faults result.keeper;
-      read_faults = K.read_faults result.keeper;
+      known = C.Store.held result.keeper;
+      count = C.Store.put_faults result.keeper;
+      read_faults = C.Store.read_faults result.keeper;
       reports = result.reports;
       memory = result.memory;
       store = result.store;

@@ -3,17 +3,16 @@
 ghost use Rattle.dp_serve.specs.Links.{link_seen};
 ghost use Rattle.dp_serve.specs.Works.{session_rules};
 
+use dp_any_session::{AnySession, SessionCore};
 use crate::LinkReport;
 use dp_crew::Reporting;
 use dp_io::{Sink, Source};
-use dp_keeper::Keeper;
-use dp_session::Session;
 use dp_session_laws::{feeds_go_on, gone_goes_on, sessions_go_on};
 
 /// Names what is told of the links of a session, for the calls of dp_crew that serve no link.
 pub(crate) struct Told;
 
-impl<K: Keeper, R: Source, T: Sink> Reporting<Session<K>, R, T> for Told {
+impl<C: SessionCore, R: Source, T: Sink> Reporting<AnySession<C>, R, T> for Told {
     ghost use Rattle.dp_serve.specs.Links.{link_seen};
     ghost use Rattle.dp_serve.specs.Works.{session_rules};
 

@@ -10,15 +10,14 @@ ghost use Rattle.dp_crew.specs.Runs.{Works, ServedSoFar, ServesNext, ServesLink,
 ghost use Rattle.dp_serve.specs.Links.{link_seen};
 ghost use Rattle.dp_serve.specs.Works.{session_rules};
 
+use dp_any_session::{AnySession, SessionCore};
 use crate::LinkReport;
 use crate::link::{LinkEnd, ServedLink, serve_link};
 use dp_crew::{Served, Worked};
 use dp_epochs::{Event, Reply};
 use dp_hall::{Seat, calls_add_up, seats_are_sound};
 use dp_io::{Sink, Source};
-use dp_keeper::Keeper;
 use dp_link::Worker;
-use dp_session::Session;
 use dp_session_laws::{feeds_go_on, gone_goes_on, sessions_go_on};
 use dp_wire::{Gate, Wire, WireError};
 use std::alloc::AllocError;
@@ -28,9 +27,9 @@ use std::thread::Threads;
 /// Serves the links of a wire, one after another, until `conns` links were served or none is to
 /// come. It also stops if the wire fails or there is no memory for a report. A link that was handed
 /// out is handed back and has its report, however it ended. 2^32 - 1 stands for no number.
-pub(crate) fn run_worker<W: Wire, K: Keeper + Send, G: Gate, R: Threads + Wait + Sync>(
-    worker: &Worker<'_, R, K, G>,
-    seat: &mut Seat<Session<K>>,
+pub(crate) fn run_worker<W: Wire, C: SessionCore + Send, G: Gate, R: Threads + Wait + Sync>(
+    worker: &Worker<'_, R, C, G>,
+    seat: &mut Seat<AnySession<C>>,
     wire: &mut W,
     conns: Option<u32>,
 ) -> Worked<LinkReport>
@@ -42,7 +41,7 @@ pub(crate) fn run_worker<W: Wire, K: Keeper + Send, G: Gate, R: Threads + Wait +
         worker.now.hall.now.start worker.now.who (most_links conns) seat.old.view seat.new.view
         (W.links wire.old) (W.links wire.new) (W.faults wire.old) (W.faults wire.new) result }
 {
-    calls_add_up::<Event, Result<Reply, AllocError>, Session<K>>();
+    calls_add_up::<Event, Result<Reply, AllocError>, AnySession<C>>();
     let most = conns.unwrap_or(u32::MAX);
     let mut worked = Worked::new(worker.alloc);
     'links: for link in 0..most {
@@ -55,9 +54,9 @@ pub(crate) fn run_worker<W: Wire, K: Keeper + Send, G: Gate, R: Threads + Wait +
 
 /// Serves the next link of the wire, if there is one, which gets this number. Whether the worker
 /// goes on. The room for the report is made before the link is accepted.
-fn serve_next<W: Wire, K: Keeper + Send, G: Gate, R: Threads + Wait + Sync>(
-    worker: &Worker<'_, R, K, G>,
-    seat: &mut Seat<Session<K>>,
+fn serve_next<W: Wire, C: SessionCore + Send, G: Gate, R: Threads + Wait + Sync>(
+    worker: &Worker<'_, R, C, G>,
+    seat: &mut Seat<AnySession<C>>,
     wire: &mut W,
     link: u32,
     worked: &mut Worked<LinkReport>,
@@ -110,13 +109,13 @@ fn serve_next<W: Wire, K: Keeper + Send, G: Gate, R: Threads + Wait + Sync>(
 /// Serves the link of this number among those of the worker's wire, and reports on it.
 fn serve_numbered<
     W: Threads + Wait + Sync,
-    K: Keeper + Send,
+    C: SessionCore + Send,
     R: Source + Send,
     T: Sink + Send,
     G: Gate,
 >(
-    worker: &Worker<'_, W, K, G>,
-    seat: &mut Seat<Session<K>>,
+    worker: &Worker<'_, W, C, G>,
+    seat: &mut Seat<AnySession<C>>,
     rx: R,
     tx: T,
     link: u32,

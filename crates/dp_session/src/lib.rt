@@ -8,7 +8,6 @@ mod resume;
 mod session;
 mod sure;
 
-pub use dp_tables::{Page, PageFrames};
 pub use laws::sessions_cross_threads;
 pub use resume::{ResumeError, ResumeFault};
 pub use session::Session;

@@ -2,18 +2,17 @@
 
 ghost use Rattle.std.specs.Prelude.{◌≡◌, [], None, true, IfOk, OnErr, IsOk, MatchResult};
 ghost use Rattle.dp_keeper.specs.Store.{Puts, Counts};
-ghost use Rattle.dp_epochs.specs.Past.{Refuses, Serves, Step, state_of};
+ghost use Rattle.dp_epochs.specs.Past.{Refuses, Serves, Step};
 ghost use Rattle.dp_epochs.specs.Pull.{answered};
-ghost use Rattle.dp_epochs.specs.State.{next_open};
-ghost use Rattle.dp_epochs.specs.declared.event.Query.TheVariants.{Pull};
-ghost use Rattle.dp_tables.specs.Pages.{IsBounded, IsPage};
 ghost use Rattle.dp_tables.specs.Ready.{IsReady};
 ghost use Rattle.dp_session.specs.Puts.{IsPut};
 
+use dp_any_session::SessionCore;
 use dp_epochs::{Answer, Event, Journal, Query, Reply, Shut};
+use dp_history::{Page, PageFrames};
 use dp_keeper::{KeepError, Keeper};
 use dp_machine::Machine;
-use dp_tables::{Page, PageFrames, Ready, Tables};
+use dp_tables::{Ready, Tables};
 use std::alloc::{AllocError, Global};
 use std::marker::Model;
 
@@ -109,51 +108,6 @@ impl<K: Keeper + Drop> Session<K> {
 }
 
 impl<K: Keeper> Session<K> {
-    /// The least number above this one of a connection that is open. It takes no memory.
-    pub fn conns(&self, after: u32) -> Option<u32>
-        ensures { result ≡ next_open (state_of self.now).connections after }
-    {
-        self.tables.next_open(after)
-    }
-
-    /// The store, the events that were kept, and the closings that were refused.
-    pub fn into_parts(self) -> (K, Journal, Shut)
-        ensures known { K.held result.0 ≡ self.known }
-        ensures count { K.put_faults result.0 ≡ self.count }
-        ensures read_faults { K.read_faults result.0 ≡ self.read_faults }
-        ensures journal { result.1 ≡ self.journal }
-        ensures shut { result.2 ≡ self.shut }
-    {
-        let Session {
-            keeper,
-            tables,
-            first_fault: _,
-        } = self;
-        let (journal, shut) = tables.into_parts();
-        (keeper, Journal::from_vec(journal), Shut::from_vec(shut))
-    }
-
-    /// Puts what a connection is to get into a page, as frames, from a cursor on: a page of some
-    /// length. `None` means that nothing more is to come.
-    ///
-    /// # Errors
-    ///
-    /// No frame is in the page.
-    pub fn put_page(
-        &self,
-        conn: u32,
-        epoch: u32,
-        at: u32,
-        page: &mut PageFrames,
-    ) -> Result<Option<Page>, AllocError>
-        ensures page { IfOk result (λ found. IsPage
-            (λ most. answered self.now (Pull conn epoch at most)) found page.new) }
-        ensures bounds { IfOk result (λ found. IsBounded found page.new) }
-        ensures err { OnErr result (page.new ≡ []) }
-    {
-        self.tables.put_page(conn, epoch, at, page)
-    }
-
     /// Refuses an event with this answer, if there is memory.
     fn refuse(&mut self, event: &Event, answer: Reply) -> Result<Reply, AllocError>
         ensures refused { IfOk result (λ given.
@@ -231,5 +185,43 @@ impl<K: Keeper> Machine for Session<K> {
             max,
         } = *query;
         self.tables.pull(conn, epoch, at, max)
+    }
+}
+
+impl<K: Keeper> SessionCore for Session<K> {
+    type Store = K;
+
+    ghost past = { λ session. session };
+
+    fn step(&mut self, event: &Event) -> Result<Reply, AllocError> {
+        Machine::step(self, event)
+    }
+
+    fn ask(&self, query: &Query) -> Result<Answer, AllocError> {
+        Machine::ask(self, query)
+    }
+
+    fn put_page(
+        &self,
+        conn: u32,
+        epoch: u32,
+        at: u32,
+        page: &mut PageFrames,
+    ) -> Result<Option<Page>, AllocError> {
+        self.tables.put_page(conn, epoch, at, page)
+    }
+
+    fn conns(&self, after: u32) -> Option<u32> {
+        self.tables.next_open(after)
+    }
+
+    fn into_parts(self) -> (K, Journal, Shut) {
+        let Session {
+            keeper,
+            tables,
+            first_fault: _,
+        } = self;
+        let (journal, shut) = tables.into_parts();
+        (keeper, Journal::from_vec(journal), Shut::from_vec(shut))
     }
 }

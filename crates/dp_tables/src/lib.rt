@@ -11,7 +11,5 @@ mod replay;
 mod resets;
 mod tables;
 
-pub use dp_history::PageFrames;
-pub use pages::Page;
 pub use ready::Ready;
 pub use tables::Tables;

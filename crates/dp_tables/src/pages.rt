@@ -32,13 +32,14 @@ ghost use Rattle.dp_tables.specs.SessionLog.{state_in};
 ghost use Rattle.dp_messages.specs.declared.message.Entry.{Entry as Piece};
 ghost use Rattle.dp_messages.specs.Messages.{entry_bytes};
 ghost use Rattle.dp_history.specs.Frames.{IsShort, frames_of};
-ghost use Rattle.dp_tables.specs.Pages.{answer_of, IsBounded, IsPage, page_most};
+ghost use Rattle.dp_history.specs.Pages.{IsBounded, IsPage, page_most};
+ghost use Rattle.dp_tables.specs.Pages.{answer_of};
 ghost use Rattle.dp_history.specs.Items.{entry_in, IsIn, IsSay, join_of, message_of, part_of};
 
 use crate::tables::Tables;
 use dp_commit::is_flagged;
 use dp_epochs::{Answer, Ending, Entries, Event, Place};
-use dp_history::{PageFrames, copies, put_item};
+use dp_history::{Page, PageFrames, copies, put_item};
 use dp_lists::{prefix_of, rest_of};
 use dp_messages::{Entry, Msg, put_entry};
 use dp_msg_meta::Meta;
@@ -46,14 +47,6 @@ use std::alloc::{AllocError, Global};
 
 /// The most entries of a page.
 const PAGE: usize = 1 << 14;
-
-/// Entries that were put as frames: a number of those of an epoch, from this place on.
-#[derive(Clone, Copy)]
-pub struct Page {
-    pub epoch: u32,
-    pub at: u32,
-    pub count: usize,
-}
 
 /// What is due of the live history: from a place on up to another.
 #[derive(Clone, Copy)]
