@@ -6,6 +6,7 @@ ghost use Rattle.dp_hall.specs.Laws.{Continues};
 ghost use Rattle.dp_epochs.specs.Laws.{ShutBefore};
 ghost use Rattle.dp_session_laws.specs.Logs.{LogEntry};
 
+use dp_any_session::{AnySession, SessionCore};
 use dp_epochs::{Event, Journal, Reply, Shut};
 use dp_hall::{Hall, HallError, Seat, calls_add_up, seats_come_back};
 use dp_io::{Sink, Source};
@@ -23,11 +24,11 @@ use std::sync::Wait;
 pub type LinkEnd = Result<(UpEnd, bool, DownEnd), GreetEnd>;
 
 /// Serves one link to its end, with the two pumps one after the other.
-pub fn serve_link<W: Wait, K: Keeper, R: Source, S: Sink>(
+pub fn serve_link<W: Wait, C: SessionCore, R: Source, S: Sink>(
     rt: &W,
     alloc: Global,
-    hall: &Hall<Session<K>>,
-    seat: &mut Seat<Session<K>>,
+    hall: &Hall<AnySession<C>>,
+    seat: &mut Seat<AnySession<C>>,
     rx: &mut R,
     tx: &mut S,
 ) -> LinkEnd
@@ -36,7 +37,7 @@ pub fn serve_link<W: Wait, K: Keeper, R: Source, S: Sink>(
     ensures of { IsOf hall.now seat.new }
     ensures calls { (acts : List LogEntry) × Continues seat.old.view acts seat.new.view }
 {
-    calls_add_up::<Event, Result<Reply, AllocError>, Session<K>>();
+    calls_add_up::<Event, Result<Reply, AllocError>, AnySession<C>>();
     let gate = OpenGate;
     let worker = Worker {
         rt,
@@ -65,8 +66,8 @@ pub fn run_link<W: Wait, K: Keeper + Drop, R: Source, S: Sink>(
     rx: &mut R,
     tx: &mut S,
 ) -> Result<(LinkEnd, Journal, Shut), AllocError> {
-    seats_come_back::<Event, Result<Reply, AllocError>, Session<K>>();
-    let session = Session::new(alloc, keeper)?;
+    seats_come_back::<Event, Result<Reply, AllocError>, AnySession<Session<K>>>();
+    let session = AnySession::new(Session::new(alloc, keeper)?);
     match Hall::start(alloc, session) {
         Ok((hall, mut seat)) => {
             let end = serve_link(rt, alloc, &hall, &mut seat, rx, tx);
