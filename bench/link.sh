@@ -7,7 +7,7 @@ work=$(mktemp -d)
 trap 'rm -rf "$work"' EXIT
 git -C "$top" archive HEAD | tar -x -C "$work"
 mkdir -p "$work/crates/feeds/src"
-printf 'feeds: dp_epochs dp_hall dp_io dp_keeper dp_link dp_session dp_session_laws dp_split dp_wire\n' >>"$work/crates.txt"
+printf 'feeds: dp_any_session dp_epochs dp_hall dp_io dp_keeper dp_link dp_session dp_session_laws dp_split dp_wire\n' >>"$work/crates.txt"
 cd "$work/crates/feeds"
 cat >src/main.rt <<'RT'
 //! Times the feed of a link.
@@ -19,6 +19,7 @@ ghost use Rattle.dp_hall.specs.Laws.{Continues};
 ghost use Rattle.dp_epochs.specs.Laws.{ShutBefore};
 ghost use Rattle.dp_session_laws.specs.Logs.{LogEntry};
 
+use dp_any_session::AnySession;
 use dp_epochs::{Event, Reply};
 use dp_hall::{Hall, HallError, Seat, calls_add_up, seats_come_back};
 use dp_io::{MemSink, MemSource};
@@ -49,8 +50,8 @@ fn given(alloc: Global) -> Result<Vec<u8>, AllocError> {
 fn serve_link<W: Wait + Clock>(
     rt: &W,
     alloc: Global,
-    hall: &Hall<Session<SureKeeper>>,
-    seat: &mut Seat<Session<SureKeeper>>,
+    hall: &Hall<AnySession<Session<SureKeeper>>>,
+    seat: &mut Seat<AnySession<Session<SureKeeper>>>,
     rx: &mut MemSource,
     tx: &mut MemSink,
 ) -> io::Result<Option<(DownEnd, Duration)>>
@@ -59,7 +60,7 @@ fn serve_link<W: Wait + Clock>(
     ensures of { IsOf hall.now seat.new }
     ensures calls { (acts : List LogEntry) × Continues seat.old.view acts seat.new.view }
 {
-    calls_add_up::<Event, Result<Reply, AllocError>, Session<SureKeeper>>();
+    calls_add_up::<Event, Result<Reply, AllocError>, AnySession<Session<SureKeeper>>>();
     let gate = OpenGate;
     let worker = Worker { rt, alloc, hall, who: 0, gate: &gate };
     let mut split = Splitter::new(alloc);
@@ -77,10 +78,10 @@ fn serve_link<W: Wait + Clock>(
 
 /// The time of a feed, and how many bytes the peer took.
 fn feed<W: Wait + Clock>(rt: &W, alloc: Global) -> io::Result<(Option<(DownEnd, Duration)>, usize)> {
-    seats_come_back::<Event, Result<Reply, AllocError>, Session<SureKeeper>>();
+    seats_come_back::<Event, Result<Reply, AllocError>, AnySession<Session<SureKeeper>>>();
     let mut rx = MemSource::new(given(alloc)?, 4096, Vec::new(alloc));
     let mut tx = MemSink::new(alloc, 1 << 24, 1 << 24, Vec::new(alloc))?;
-    let session = Session::new(alloc, SureKeeper::new(Rows::new(alloc)))?;
+    let session = AnySession::new(Session::new(alloc, SureKeeper::new(Rows::new(alloc)))?);
     match Hall::start(alloc, session) {
         Ok((hall, mut seat)) => {
             let end = serve_link(rt, alloc, &hall, &mut seat, &mut rx, &mut tx);

@@ -16,13 +16,13 @@ ghost use Rattle.dp_link.specs.Sending.{Sends, SentTo, SendsPage, WritesPage, Fa
 ghost use Rattle.dp_link.specs.Sending.{FaultMatchesPage};
 ghost use Rattle.dp_link.specs.Sending.{session_of};
 
-use dp_any_session::{AnySession, SessionCore};
 use crate::pages::{Asked, Cursor};
 use crate::{DownEnd, Greeting};
+use dp_any_session::{AnySession, SessionCore};
 use dp_epochs::{Event, Reply};
 use dp_hall::{Hall, Seat, calls_add_up, seats_are_sound};
-use dp_io::{Failed, Sink, put_all};
 use dp_history::{Page, PageFrames};
+use dp_io::{Failed, Sink, put_all};
 use dp_session_laws::{feeds_begin, feeds_end, feeds_go_on, pulls_go_on, sessions_go_on};
 use std::alloc::{AllocError, Global};
 use std::sync::Wait;

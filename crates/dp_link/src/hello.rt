@@ -11,11 +11,11 @@ ghost use Rattle.dp_link.specs.Hello.{Greets, FaultMatchesHello, Answers, ReadsN
 ghost use Rattle.dp_link.specs.Hello.{NameOf, Welcomes, RefusesBy, FaultMatchesRefusal};
 ghost use Rattle.dp_link.specs.Hello.{FaultMatchesWelcome};
 
-use dp_any_session::{AnySession, SessionCore};
 use crate::acting::{Worker, act_once};
 use crate::answers::{put_goodbye, put_welcome, reason_of};
 use crate::reading::{greet_end_of, reader_of};
 use crate::{GreetEnd, Greeting};
+use dp_any_session::{AnySession, SessionCore};
 use dp_epochs::{Event, Reply};
 use dp_frame::Octets;
 use dp_hall::{Seat, calls_add_up};

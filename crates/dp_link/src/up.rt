@@ -21,10 +21,10 @@ ghost use Rattle.dp_io.specs.Limits.{stream_limit};
 ghost use Rattle.dp_link.specs.Saying.{SaysAll, SaysNext, SaidSoFar, SaidToEnd};
 ghost use Rattle.dp_link.specs.Saying.{FaultMatchesSay, FaultMatchesUp, messages_of};
 
-use dp_any_session::{AnySession, SessionCore};
 use crate::UpEnd;
 use crate::acting::{Worker, act_once};
 use crate::reading::{reader_of, up_end_of};
+use dp_any_session::{AnySession, SessionCore};
 use dp_entries::{Anywhere, EntryReader};
 use dp_epochs::{Event, Reply};
 use dp_hall::{Acted, Listener, Seat, calls_add_up};

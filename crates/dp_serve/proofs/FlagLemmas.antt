@@ -1,6 +1,6 @@
 -- What the acts of a link say of memory and of the store.
 use Rattle.std.proofs.Common.{◌≡◌, ◌⊎◌, ℕ, ◌||◌, Bool, true, false, List, [], ◌∷◌, ◌++◌}
-use Rattle.std.proofs.Common.{Option, None, Some, Result, Ok, Err, refl, sym, ap, subst, ◌∙◌, inl}
+use Rattle.std.proofs.Common.{Option, Ok, Err, refl, sym, ap, subst, ◌∙◌, inl}
 use Rattle.std.proofs.Common.{inr, IsErr, ⊎_elim}
 use Rattle.std.proofs.Math.Bool.{or-false}
 use Rattle.std.proofs.lemmas.Bool.{false≢true}
@@ -16,7 +16,7 @@ use Rattle.dp_link.specs.declared.ends.UpEnd.TheVariants as up
 use Rattle.dp_link.specs.Acts.{last_outcome}
 use Rattle.dp_session_laws.specs.Logs.{ReplyOrMemory, LogEntry}
 use Rattle.dp_link.specs.Hello.{GreetsBy}
-use Rattle.dp_link.specs.Saying.{AreSays, AreSaid, AreSaidTo, SaidBy, MayGoOn, stops}
+use Rattle.dp_link.specs.Saying.{AreSays, AreSaid, AreSaidTo, SaidBy, MayGoOn}
 use Rattle.dp_serve.specs.Links.{is_failed, is_store_fault, has_failed, has_store_fault}
 use Rattle.dp_serve.specs.Links.{is_up_memory}
 use Rattle.dp_serve.specs.Talking.{is_store_end, is_last_failed, is_last_store_fault}

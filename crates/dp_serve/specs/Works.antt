@@ -1,9 +1,9 @@
 -- What is told of the links that a session's server serves.
-use Rattle.std.specs.Prelude.{◌≡◌, ℕ, Bool, List}
+use Rattle.std.specs.Prelude.{◌≡◌, ℕ, Bool}
 use Rattle.dp_epochs.specs.Past.{Past}
 use Rattle.dp_epochs.specs.Laws.{ShutBefore}
 use Rattle.dp_epochs.specs.declared.event.Event.{Event}
-use Rattle.dp_session_laws.specs.Logs.{LogEntry, ReplyOrMemory}
+use Rattle.dp_session_laws.specs.Logs.{ReplyOrMemory}
 use Rattle.dp_crew.specs.Runs as crew
 use Rattle.dp_serve.specs.declared.report.LinkReport.{LinkReport}
 use Rattle.dp_serve.specs.Links.{LinkState, IsLink, ran_out, is_store_fault}

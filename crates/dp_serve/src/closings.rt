@@ -14,7 +14,9 @@ use std::alloc::AllocError;
 
 /// Closes the connections that are open, by rising number, up to the first Close that is refused,
 /// and tells what that one came to.
-pub(crate) fn close_open<C: SessionCore>(session: &mut AnySession<C>) -> Option<Result<Reply, AllocError>>
+pub(crate) fn close_open<C: SessionCore>(
+    session: &mut AnySession<C>,
+) -> Option<Result<Reply, AllocError>>
     requires { ShutBefore session.old }
     ensures sound { ShutBefore session.new }
     ensures closes { ClosesEach session.old (open_numbers session.old) result session.new }

@@ -10,10 +10,10 @@ ghost use Rattle.dp_crew.specs.Gathering.{Gathers, IsFirst, all_reports};
 ghost use Rattle.dp_serve.specs.Links.{link_seen};
 ghost use Rattle.dp_serve.specs.Works.{session_rules};
 
-use dp_any_session::{AnySession, SessionCore};
 use crate::LinkReport;
 use crate::told::Told;
 use crate::worker::run_worker;
+use dp_any_session::{AnySession, SessionCore};
 use dp_crew::{Flags, Job, Ran, gather_jobs, make_jobs};
 use dp_hall::{Hall, Seat};
 use dp_link::Worker;

@@ -14,8 +14,8 @@ ghost use Rattle.dp_serve.specs.Links.{is_up_memory, is_down_memory, is_failed, 
 ghost use Rattle.dp_serve.specs.Talking.{WasServed, Talks, is_store_end, is_last_failed};
 ghost use Rattle.dp_serve.specs.Talking.{is_last_store_fault};
 
-use dp_any_session::{AnySession, SessionCore};
 use crate::pumps::{Pumped, run_pumps};
+use dp_any_session::{AnySession, SessionCore};
 use dp_epochs::{Event, Reply};
 use dp_hall::{Seat, calls_add_up, seats_are_sound, seats_come_back, seats_rejoin};
 use dp_io::{Sink, Source};

@@ -8,11 +8,11 @@ ghost use Rattle.dp_serve.specs.Links.{link_seen};
 ghost use Rattle.dp_serve.specs.Serving.{Serves};
 ghost use Rattle.dp_serve.specs.Closings.{ServesOn, ClosesTo};
 
-use dp_any_session::{AnySession, SessionCore};
 use crate::LinkReport;
 use crate::closings::{broke, close_open, ran_out};
 use crate::jobs::{Crew, Reports, run_workers};
 use crate::told::Told;
+use dp_any_session::{AnySession, SessionCore};
 use dp_crew::{Flags, Ran, crews_add_up};
 use dp_epochs::{Journal, Shut};
 use dp_hall::{Hall, HallError, Seat};
@@ -156,8 +156,8 @@ fn serve_nothing<W: Wire, C: SessionCore>(
 ) -> Served<W, C::Store>
     ensures parts { (C.Store.held result.keeper ≡ session.known)
         × (C.Store.put_faults result.keeper ≡ session.count)
-        × (C.Store.read_faults result.keeper ≡ session.read_faults) × (result.journal ≡ session.journal)
-        × (result.shut ≡ session.shut) }
+        × (C.Store.read_faults result.keeper ≡ session.read_faults)
+        × (result.journal ≡ session.journal) × (result.shut ≡ session.shut) }
     ensures wires { result.wires.items ≡ wires.items }
     ensures reports { result.reports ≡ [] }
     ensures flags { (result.memory ≡ true) × (result.store ≡ false) × (result.wire ≡ false) }

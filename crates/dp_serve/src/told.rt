@@ -3,8 +3,8 @@
 ghost use Rattle.dp_serve.specs.Links.{link_seen};
 ghost use Rattle.dp_serve.specs.Works.{session_rules};
 
-use dp_any_session::{AnySession, SessionCore};
 use crate::LinkReport;
+use dp_any_session::{AnySession, SessionCore};
 use dp_crew::Reporting;
 use dp_io::{Sink, Source};
 use dp_session_laws::{feeds_go_on, gone_goes_on, sessions_go_on};

@@ -10,9 +10,9 @@ ghost use Rattle.dp_crew.specs.Runs.{Works, ServedSoFar, ServesNext, ServesLink,
 ghost use Rattle.dp_serve.specs.Links.{link_seen};
 ghost use Rattle.dp_serve.specs.Works.{session_rules};
 
-use dp_any_session::{AnySession, SessionCore};
 use crate::LinkReport;
 use crate::link::{LinkEnd, ServedLink, serve_link};
+use dp_any_session::{AnySession, SessionCore};
 use dp_crew::{Served, Worked};
 use dp_epochs::{Event, Reply};
 use dp_hall::{Seat, calls_add_up, seats_are_sound};

@@ -3,7 +3,7 @@ use denote.Param.Send.{sendable}
 use Rattle.std.proofs.Common.{get_or}
 use Rattle.std.proofs.Crossing.{sync}
 use Rattle.dp_crew.specs.Runs.{most_links}
-use Rattle.dp_crew.proofs.Sending.{job_send, number_sync}
+use Rattle.dp_crew.proofs.Sending.{number_sync}
 use Rattle.dp_crew.proofs.Making.{ran-at, ran-each}
 use Rattle.dp_serve.specs.Links.{link_seen}
 use Rattle.dp_serve.specs.Works.{session_rules}
