@@ -1,6 +1,10 @@
 -- What threads share of a session's hall, and what they hand to each other.
 use denote.RattleType.{RattleType}
 use denote.Param.Send.{IsSend, IsSync}
+use Rattle.dp_any_session.proofs.session.AnySession.TheSendSync as session
+use Rattle.dp_any_session.specs.contracts.session.AnySession as AnySession
+use Rattle.dp_any_session.specs.contracts.session.AnySessionMachine.TheImpl as machine
+use Rattle.dp_any_session.specs.declared.core.SessionCore as core
 use Rattle.dp_crew.proofs.Sending.{job_send}
 use Rattle.dp_crew.specs.contracts.jobs.Job as Job
 use Rattle.dp_epochs.specs.contracts.event.Answer as Answer
@@ -10,30 +14,34 @@ use Rattle.dp_epochs.specs.contracts.event.Reply as Reply
 use Rattle.dp_hall.proofs.Sending.{seat_send, hall_sync}
 use Rattle.dp_hall.specs.contracts.hall.Hall as Hall
 use Rattle.dp_hall.specs.contracts.seat.Seat as Seat
-use Rattle.dp_keeper.specs.declared.keeper.Keeper.{Ghosts}
-use Rattle.dp_session.proofs.session.Session.TheSendSync as session
-use Rattle.dp_session.specs.contracts.session.Session as Session
-use Rattle.dp_session.specs.contracts.session.SessionMachine.TheImpl as machine
+use Rattle.dp_keeper.specs.declared.keeper.Keeper as keeper
 use Rattle.dp_serve.proofs.report.LinkReport.TheSendSync as report
 use Rattle.dp_serve.specs.contracts.report.LinkReport as LinkReport
 
-module _ (K : RattleType) (g : Ghosts K.Denot) where
-  pub session_hall_sync : IsSend K → IsSync (Hall.the_row (Session.the_row K g) Event.the_row
-      Reply.the_row Query.the_row Answer.the_row (machine.ghosts K g machine.no_dict))
+-- a session over a core whose store is S
+module _ (C S : RattleType) (g : core.Ghosts C.Denot S.Denot) (k : keeper.Ghosts S.Denot) where
+  abbrev row : RattleType
+  row = AnySession.the_row C S g k
+
+  pub session_hall_sync : IsSend C → IsSync (Hall.the_row (AnySession.the_row C S g k)
+      Event.the_row Reply.the_row Query.the_row Answer.the_row
+      (machine.ghosts C S g machine.no_dict k machine.no_dict))
   session_hall_sync s =
-      hall_sync (Session.the_row K g) Event.the_row Reply.the_row Query.the_row Answer.the_row
-      (machine.ghosts K g machine.no_dict) (session.the_send K g s)
+      hall_sync row Event.the_row Reply.the_row Query.the_row Answer.the_row
+      (machine.ghosts C S g machine.no_dict k machine.no_dict) (session.the_send C S g k s)
 
-  pub session_seat_send : IsSend K → IsSend (Seat.the_row (Session.the_row K g) Event.the_row
-      Reply.the_row Query.the_row Answer.the_row (machine.ghosts K g machine.no_dict))
+  pub session_seat_send : IsSend C → IsSend (Seat.the_row (AnySession.the_row C S g k)
+      Event.the_row Reply.the_row Query.the_row Answer.the_row
+      (machine.ghosts C S g machine.no_dict k machine.no_dict))
   session_seat_send s =
-      seat_send (Session.the_row K g) Event.the_row Reply.the_row Query.the_row Answer.the_row
-      (machine.ghosts K g machine.no_dict) (session.the_send K g s)
+      seat_send row Event.the_row Reply.the_row Query.the_row Answer.the_row
+      (machine.ghosts C S g machine.no_dict k machine.no_dict) (session.the_send C S g k s)
 
-  pub session_job_send : (W : RattleType) → IsSend W → IsSend K
-      → IsSend (Job.the_row W (Session.the_row K g) LinkReport.the_row Event.the_row Reply.the_row
-      Query.the_row Answer.the_row (machine.ghosts K g machine.no_dict))
+  pub session_job_send : (W : RattleType) → IsSend W → IsSend C
+      → IsSend (Job.the_row W (AnySession.the_row C S g k) LinkReport.the_row Event.the_row
+      Reply.the_row Query.the_row Answer.the_row
+      (machine.ghosts C S g machine.no_dict k machine.no_dict))
   session_job_send W w s =
-      job_send W (Session.the_row K g) LinkReport.the_row Event.the_row Reply.the_row Query.the_row
-      Answer.the_row (machine.ghosts K g machine.no_dict) w (session.the_send K g s)
+      job_send W row LinkReport.the_row Event.the_row Reply.the_row Query.the_row Answer.the_row
+      (machine.ghosts C S g machine.no_dict k machine.no_dict) w (session.the_send C S g k s)
       report.the_send

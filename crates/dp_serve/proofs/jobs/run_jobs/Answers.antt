@@ -15,7 +15,8 @@ for_each_mut-requires-send-T g c κs within = search (sendable, session_job_send
 
 pub for_each_mut-requires-sync-F : goal.for_each_mut-requires-sync-F
 for_each_mut-requires-sync-F g c κs within =
-    let hall = session_hall_sync (param 1 g.row.K) g.K.Keeper c.type_bounds.send-K in
+    let hall = session_hall_sync (param 1 g.row.C) (param 6 g.row.C-Store) g.C.SessionCore
+    g.C.Store.Keeper c.type_bounds.send-C in
     let rt = c.type_bounds.sync-R in
     let gate = c.type_bounds.sync-G in
     search (sendable, sync, number_sync) depth 20

@@ -6,8 +6,10 @@ use Rattle.dp_serve.proofs.pumps.run_both.Goals as goal
 
 pub join_mut-requires-send-F : goal.join_mut-requires-send-F
 join_mut-requires-send-F g c κs within =
-    let hall = session_hall_sync (param 1 g.row.K) g.K.Keeper c.type_bounds.send-K in
-    let seat = session_seat_send (param 1 g.row.K) g.K.Keeper c.type_bounds.send-K in
+    let hall = session_hall_sync (param 1 g.row.C) (param 5 g.row.C-Store) g.C.SessionCore
+    g.C.Store.Keeper c.type_bounds.send-C in
+    let seat = session_seat_send (param 1 g.row.C) (param 5 g.row.C-Store) g.C.SessionCore
+    g.C.Store.Keeper c.type_bounds.send-C in
     let rt = c.type_bounds.sync-W in
     let sink = c.type_bounds.send-S in
     let gate = c.type_bounds.sync-G in
