@@ -31,9 +31,13 @@ use std::time::Duration;
 /// A page of fewer bytes has entries that come no faster than painters make them.
 const FEW_BYTES: usize = 1 << 11;
 
-/// After a page of as many bytes the next one may be whole already: a page has at most twice as
-/// many, unless it is one entry.
-const MANY_BYTES: usize = 1 << 15;
+/// A page of more bytes is a part of a full segment, or one entry. After it the next one may be
+/// whole already.
+const MANY_BYTES: usize = 1 << 14;
+
+/// A page of as many bytes may be one of several copies, which a painter who joins late is to get
+/// at once.
+const SOME_BYTES: usize = 1 << 13;
 
 /// So long a link rests after a page of few bytes, so that many entries go out in one write. Nobody
 /// sees two milliseconds, and the first entry after a pause goes out at once.
@@ -75,6 +79,7 @@ pub fn pump_down<W: Wait, C: SessionCore, S: Sink>(
         },
         frames: PageFrames::new(alloc),
         page: Ok(None),
+        caught_up: false,
     };
     'pages: for _ in rt.forever() {
         match send_more(rt, hall, seat, tx, greeting, &mut asked) {
@@ -115,7 +120,8 @@ fn send_more<W: Wait, C: SessionCore, S: Sink>(
     let seen = hall.count(seat);
     match send_page(rt, hall, seat, tx, greeting, asked) {
         Ok(true) => {
-            rest_after(rt, hall, asked.frames.as_slice().len());
+            let bytes = asked.frames.as_slice().len();
+            asked.caught_up = rest_after(rt, hall, bytes, asked.caught_up);
             Ok(())
         }
         Ok(false) => {
@@ -126,12 +132,23 @@ fn send_more<W: Wait, C: SessionCore, S: Sink>(
     }
 }
 
-/// Lets more entries come after a page of this number of bytes.
-fn rest_after<W: Wait, C: SessionCore>(rt: &W, hall: &Hall<AnySession<C>>, bytes: usize) {
+/// Lets more entries come after a page of this number of bytes. It is told whether the link had
+/// caught up before the page, and answers whether it has now.
+fn rest_after<W: Wait, C: SessionCore>(
+    rt: &W,
+    hall: &Hall<AnySession<C>>,
+    bytes: usize,
+    caught_up: bool,
+) -> bool {
+    let many = if caught_up { MANY_BYTES } else { SOME_BYTES };
     if bytes < FEW_BYTES {
         hall.rest(rt, Duration::from_micros(SHORT_REST_MICROS));
-    } else if bytes < MANY_BYTES {
+        true
+    } else if bytes <= many {
         hall.rest(rt, Duration::from_millis(LONG_REST_MILLIS));
+        true
+    } else {
+        caught_up
     }
 }
 

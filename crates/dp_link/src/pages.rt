@@ -22,6 +22,8 @@ pub(crate) struct Asked {
     pub cursor: Cursor,
     pub frames: PageFrames,
     pub page: Result<Option<Page>, AllocError>,
+    /// Whether a page had little once: all that was there then had come.
+    pub caught_up: bool,
 }
 
 impl<C: SessionCore> Look<AnySession<C>> for Asked {
