@@ -49,6 +49,7 @@ pub(crate) fn run_server<R: Threads + Wait + Sync, W: Wire + Send, K: Keeper + S
             return Ran::without(alloc, end_of_fault(why), Resources { wires, keeper });
         }
     };
+    let session = AnySession::new(session);
     let Served {
         wires,
         keeper,
@@ -58,7 +59,7 @@ pub(crate) fn run_server<R: Threads + Wait + Sync, W: Wire + Send, K: Keeper + S
         memory,
         store,
         wire,
-    } = serve(rt, alloc, AnySession::new(session), wires, conns, gate);
+    } = serve(rt, alloc, session, wires, conns, gate);
     Ran {
         ending: server_end(memory, store, wire),
         wires,

@@ -1,12 +1,14 @@
 -- The session was served, or couldn't be resumed.
 use Rattle.std.proofs.Common.{◌≡◌, ◌∙◌, ap, arith, inl, inr, length, subst, sym}
+use Rattle.dp_epochs.specs.Laws.{ShutBefore}
 use Rattle.dp_session.specs.Resuming.{CountsFault}
 use Rattle.dp_commands.proofs.Leaving.{resumed_sound}
 use Rattle.dp_commands.proofs.server.run_server.Goals as goal
 
 pub serve-wires-requires-clause-sound : goal.serve-wires-requires-clause-sound
 serve-wires-requires-clause-sound g c κs within =
-    resumed_sound c.in-Ok.session _ _ _ c.in-Ok.ensures.session
+    subst ShutBefore (sym c.new-session.ensures)
+    (resumed_sound c.in-Ok.session _ _ _ c.in-Ok.ensures.session)
 
 pub returns-clause-ends : goal.returns-clause-ends
 returns-clause-ends g c = λ addr service s untouched.
@@ -23,7 +25,7 @@ returns-clause-ends g c = λ addr service s untouched.
           memory = served.memory;
           store = served.store;
           wire = served.wire;
-          serves = c.serve-wires.ensures;
+          serves = rw c.new-session.ensures at c.serve-wires.ensures;
           end_is = c.server_end.ensures;
         });
       },
