@@ -1,7 +1,7 @@
 -- The acts of a seat are in what it has seen.
 use Rattle.std.proofs.Common.{ℕ, Bool, true, false, List, [], ◌∷◌, ◌++◌, Option}
 use Rattle.std.proofs.Common.{Ok}
-use Rattle.std.proofs.Common.{refl, sym, subst, inl, inr}
+use Rattle.std.proofs.Common.{if◌then◌else◌, refl, sym, subst, inl, inr}
 use Rattle.dp_split.specs.Stream.{Stream}
 use Rattle.dp_hall.specs.Logs.{entries_by, is_same_name}
 use Rattle.dp_hall.specs.Names.{IsIn}
