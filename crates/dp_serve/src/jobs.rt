@@ -38,7 +38,12 @@ pub(crate) struct Crew<'a, R, C: SessionCore, G> {
 /// of them. The seats are joined into the given one, which has acted nothing yet.
 ///
 /// If memory runs out, a worker ends or doesn't begin, and the flag says so.
-pub(crate) fn run_workers<W: Wire + Send, C: SessionCore + Send, G: Gate, R: Threads + Wait + Sync>(
+pub(crate) fn run_workers<
+    W: Wire + Send,
+    C: SessionCore<Store: Send> + Send,
+    G: Gate,
+    R: Threads + Wait + Sync,
+>(
     crew: &Crew<'_, R, C, G>,
     seat: &mut Seat<AnySession<C>>,
     wires: Vec<W>,
@@ -83,7 +88,7 @@ pub(crate) fn run_workers<W: Wire + Send, C: SessionCore + Send, G: Gate, R: Thr
 
 /// Runs a worker for each wire, and gathers what they did. There is room for their jobs and for
 /// their lists of reports.
-fn run_all<W: Wire + Send, C: SessionCore + Send, G: Gate, R: Threads + Wait + Sync>(
+fn run_all<W: Wire + Send, C: SessionCore<Store: Send> + Send, G: Gate, R: Threads + Wait + Sync>(
     crew: &Crew<'_, R, C, G>,
     seat: &mut Seat<AnySession<C>>,
     wires: &mut Vec<W>,
@@ -115,7 +120,7 @@ fn run_all<W: Wire + Send, C: SessionCore + Send, G: Gate, R: Threads + Wait + S
 }
 
 /// Runs the workers of the jobs, all at the same time if threads can be made.
-fn run_jobs<W: Wire + Send, C: SessionCore + Send, G: Gate, R: Threads + Wait + Sync>(
+fn run_jobs<W: Wire + Send, C: SessionCore<Store: Send> + Send, G: Gate, R: Threads + Wait + Sync>(
     rt: &R,
     alloc: Global,
     hall: &Hall<AnySession<C>>,
@@ -148,7 +153,7 @@ fn run_jobs<W: Wire + Send, C: SessionCore + Send, G: Gate, R: Threads + Wait + 
 }
 
 /// Runs the worker of a job.
-fn run_job<W: Wire, C: SessionCore + Send, G: Gate, R: Threads + Wait + Sync>(
+fn run_job<W: Wire, C: SessionCore<Store: Send> + Send, G: Gate, R: Threads + Wait + Sync>(
     rt: &R,
     alloc: Global,
     hall: &Hall<AnySession<C>>,

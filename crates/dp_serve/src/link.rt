@@ -88,7 +88,7 @@ pub(crate) struct ServedLink<R, S> {
 /// is to get, to the end of both.
 pub(crate) fn serve_link<
     W: Threads + Wait + Sync,
-    C: SessionCore + Send,
+    C: SessionCore<Store: Send> + Send,
     R: Source + Send,
     S: Sink + Send,
     G: Gate,
@@ -120,7 +120,13 @@ pub(crate) fn serve_link<
 
 /// Serves a painter who was greeted, on two seats. If there is no second one, the painter leaves
 /// at once.
-fn talk<W: Threads + Wait + Sync, C: SessionCore + Send, R: Source + Send, S: Sink + Send, G: Gate>(
+fn talk<
+    W: Threads + Wait + Sync,
+    C: SessionCore<Store: Send> + Send,
+    R: Source + Send,
+    S: Sink + Send,
+    G: Gate,
+>(
     worker: &Worker<'_, W, C, G>,
     seat: &mut Seat<AnySession<C>>,
     rx: R,

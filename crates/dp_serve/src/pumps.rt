@@ -33,7 +33,7 @@ pub(crate) struct Pumped<R, S> {
 /// Runs both pumps, each on one of the two seats, and joins the second seat into the first.
 pub(crate) fn run_pumps<
     W: Threads + Wait + Sync,
-    C: SessionCore + Send,
+    C: SessionCore<Store: Send> + Send,
     R: Source + Send,
     S: Sink + Send,
     G: Gate,
@@ -74,7 +74,7 @@ pub(crate) fn run_pumps<
 fn run_both<
     'a,
     W: Threads + Wait + Sync,
-    C: SessionCore + Send,
+    C: SessionCore<Store: Send> + Send,
     R: Source + Send,
     S: Sink + Send,
     G: Gate,

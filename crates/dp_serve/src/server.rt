@@ -50,7 +50,7 @@ pub struct Served<W, K: Keeper> {
 /// its wire fails. It waits for all of them. Each link that a wire handed out is handed back.
 ///
 /// If memory runs out, a worker ends or doesn't begin, and `memory` says so.
-pub fn serve<W: Wire + Send, C: SessionCore + Send, G: Gate, R: Threads + Wait + Sync>(
+pub fn serve<W: Wire + Send, C: SessionCore<Store: Send> + Send, G: Gate, R: Threads + Wait + Sync>(
     rt: &R,
     alloc: Global,
     session: AnySession<C>,
@@ -104,7 +104,12 @@ pub fn serve<W: Wire + Send, C: SessionCore + Send, G: Gate, R: Threads + Wait +
 }
 
 /// Serves a session as it is: a worker for each wire.
-fn serve_wires<W: Wire + Send, C: SessionCore + Send, G: Gate, R: Threads + Wait + Sync>(
+fn serve_wires<
+    W: Wire + Send,
+    C: SessionCore<Store: Send> + Send,
+    G: Gate,
+    R: Threads + Wait + Sync,
+>(
     rt: &R,
     alloc: Global,
     session: AnySession<C>,

@@ -27,7 +27,12 @@ use std::thread::Threads;
 /// Serves the links of a wire, one after another, until `conns` links were served or none is to
 /// come. It also stops if the wire fails or there is no memory for a report. A link that was handed
 /// out is handed back and has its report, however it ended. 2^32 - 1 stands for no number.
-pub(crate) fn run_worker<W: Wire, C: SessionCore + Send, G: Gate, R: Threads + Wait + Sync>(
+pub(crate) fn run_worker<
+    W: Wire,
+    C: SessionCore<Store: Send> + Send,
+    G: Gate,
+    R: Threads + Wait + Sync,
+>(
     worker: &Worker<'_, R, C, G>,
     seat: &mut Seat<AnySession<C>>,
     wire: &mut W,
@@ -54,7 +59,7 @@ pub(crate) fn run_worker<W: Wire, C: SessionCore + Send, G: Gate, R: Threads + W
 
 /// Serves the next link of the wire, if there is one, which gets this number. Whether the worker
 /// goes on. The room for the report is made before the link is accepted.
-fn serve_next<W: Wire, C: SessionCore + Send, G: Gate, R: Threads + Wait + Sync>(
+fn serve_next<W: Wire, C: SessionCore<Store: Send> + Send, G: Gate, R: Threads + Wait + Sync>(
     worker: &Worker<'_, R, C, G>,
     seat: &mut Seat<AnySession<C>>,
     wire: &mut W,
@@ -109,7 +114,7 @@ fn serve_next<W: Wire, C: SessionCore + Send, G: Gate, R: Threads + Wait + Sync>
 /// Serves the link of this number among those of the worker's wire, and reports on it.
 fn serve_numbered<
     W: Threads + Wait + Sync,
-    C: SessionCore + Send,
+    C: SessionCore<Store: Send> + Send,
     R: Source + Send,
     T: Sink + Send,
     G: Gate,

@@ -1,6 +1,6 @@
 use Rattle.dp_serve.specs.Links.{link_seen}
 use Rattle.dp_serve.proofs.LinkLemmas.{session-goes-on}
-use Rattle.dp_serve.proofs.told.ToldReportingSession.reports_go_on.Goals as goal
+use Rattle.dp_serve.proofs.told.ToldReportingAnySession.reports_go_on.Goals as goal
 
 pub returns : goal.returns
 returns g c =
