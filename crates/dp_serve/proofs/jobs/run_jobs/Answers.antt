@@ -1,5 +1,5 @@
 use denote.Param.{param}
-use denote.Param.Send.{sendable}
+use denote.Param.Send.{param_sync, sendable}
 use Rattle.std.proofs.Common.{get_or}
 use Rattle.std.proofs.Crossing.{sync}
 use Rattle.dp_crew.specs.Runs.{most_links}
@@ -8,6 +8,7 @@ use Rattle.dp_crew.proofs.Making.{ran-at, ran-each}
 use Rattle.dp_serve.specs.Links.{link_seen}
 use Rattle.dp_serve.specs.Works.{session_rules}
 use Rattle.dp_serve.proofs.Sending.{session_hall_sync, session_job_send}
+use Rattle.dp_serve.proofs.jobs.run_jobs.Lts.{arg-0-2}
 use Rattle.dp_serve.proofs.jobs.run_jobs.Goals as goal
 
 pub for_each_mut-requires-send-T : goal.for_each_mut-requires-send-T
@@ -19,7 +20,12 @@ for_each_mut-requires-sync-F g c κs within =
     g.C.Store.Keeper c.type_bounds.send-C in
     let rt = c.type_bounds.sync-R in
     let gate = c.type_bounds.sync-G in
-    search (sendable, sync, number_sync) depth 20
+    param_sync 2 (arg-0-2 g.row.W g.row.C g.row.G g.row.R g.row.W-Rx g.row.W-Tx g.row.C-Store
+    g.W.laws g.C.laws g.G.laws g.R.laws g.W.Rx.laws g.W.Tx.laws g.C.Store.laws g.W.Wire
+    g.W.Wire-dict g.W.Rx.Source g.W.Rx.Source-dict g.W.Tx.Sink g.W.Tx.Sink-dict g.C.SessionCore
+    g.C.SessionCore-dict g.C.Store.Keeper g.C.Store.Keeper-dict g.G.Gate g.G.Gate-dict g.R.Threads
+    g.R.Threads-dict g.R.Wait g.R.Wait-dict g.W.Rx.Destruct-dict g.W.Tx.Destruct-dict κs)
+    (search (sendable, sync, number_sync) depth 20 fits 5000 parts 0)
 
 pub returns : goal.returns
 returns g c =
