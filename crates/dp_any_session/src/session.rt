@@ -16,7 +16,7 @@ use std::marker::Model;
 
 /// A session over a core. Contracts see it as its past, whatever the core is.
 #[derive(Drop)]
-pub struct AnySession<C> {
+pub struct AnySession<C: SessionCore> {
     core: C,
 }
 

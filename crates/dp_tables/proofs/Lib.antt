@@ -4,3 +4,4 @@ pub mod CauseLemmas
 pub mod ReadLemmas
 pub mod ReplayLemmas
 pub mod KeepLemmas
+pub mod RoomLemmas
