@@ -2,7 +2,7 @@
 use Rattle.std.proofs.Common.{◌≡◌, ℕ, ◌+◌, ◌<◌, ◌≤◌, max, List, ◌∷◌, length, [], map, take}
 use Rattle.std.proofs.Common.{drop, append-nil, Some, Result, Ok, Err, IfOk, sym, ap, ◌∙◌, arith}
 use Rattle.std.specs.List.{slice_get}
-use Rattle.std.proofs.lemmas.List.{drop-map, drop-take, drop_all, take-take}
+use Rattle.std.proofs.lemmas.List.{drop-map, drop-take, take-take}
 use Rattle.std.proofs.lemmas.List.{length-drop, length-take-le}
 use Rattle.dp_messages.specs.declared.message.Entry.{Entry}
 use Rattle.dp_messages.specs.Messages.{entry_bytes}
@@ -16,7 +16,7 @@ use Rattle.dp_history.specs.Made.{AreMadeOf}
 use Rattle.dp_history.specs.Pages.{IsPageOf}
 use Rattle.dp_history.proofs.ItemLemmas.{drop-at}
 
--- ---- a page of one entry, or of none
+-- ---- a page of one entry
 
 pub page-of-one : (journal : List Event) (items : List HistoryItem) (at : ℕ) (item : HistoryItem)
     (new : List ℕ) → slice_get items at ≡ Some item → new ≡ entry_bytes (entry_in journal item)
@@ -30,12 +30,6 @@ page-of-one journal items at item new found put =
       sym (ap length one),
       put ∙ (sym (append-nil (entry_bytes (f item))) ∙ sym (ap frames_of one)),
     )
-
-pub page-of-none : (history : List Entry) (at : ℕ) (new : List ℕ) → length history ≤ at → new ≡ []
-    → IsPageOf history at 0 new
-page-of-none history at new past none =
-    let empty : page at 1 history ≡ [] = ap (take 1) (drop_all at history past) in
-    (1, sym (ap length empty), none ∙ sym (ap frames_of empty))
 
 -- ---- pages of frames that are there
 
