@@ -2,5 +2,6 @@ pub mod FrameLemmas
 pub mod LogLemmas
 pub mod MadeLemmas
 pub mod KeptLemmas
+pub mod PageLemmas
 pub mod Ranges
 pub mod ItemLemmas

@@ -1,7 +1,9 @@
 -- What a Pull is answered, as the frames of a page.
 use Rattle.std.specs.Prelude.{◌≡◌, ◌≤◌, ℕ, List, [], length, Option, None, Some}
+use Rattle.dp_messages.specs.declared.message.Entry.{Entry}
 use Rattle.dp_epochs.specs.declared.event.Answer.{Answer}
 use Rattle.dp_epochs.specs.declared.event.Answer.TheVariants.{Entries, Gone}
+use Rattle.dp_epochs.specs.Pull.{page as page_of}
 use Rattle.dp_history.specs.Frames.{IsShort, frames_of}
 use Rattle.dp_history.specs.declared.page.Page.{Page}
 
@@ -17,6 +19,12 @@ AnswersBy (Entries epoch at list) (Some page) bytes =
 -- what a Pull of some number of entries is answered, as frames
 abbrev pub IsPage : (ℕ → Answer) → Option Page → List ℕ → Type 0
 IsPage answer page bytes = (most : ℕ) × AnswersBy (answer most) page bytes
+
+-- `count` entries of a history from a place on, with their frames: as many as for some `most`
+abbrev pub IsPageOf : List Entry → ℕ → ℕ → List ℕ → Type 0
+IsPageOf history at count bytes =
+    (most : ℕ) × (count ≡ length (page_of at most history))
+    × (bytes ≡ frames_of (page_of at most history))
 
 -- the most entries of a page
 abbrev pub page_most : ℕ

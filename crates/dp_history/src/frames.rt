@@ -9,14 +9,18 @@ ghost use Rattle.dp_history.specs.Frames.{IsShort, frames_of};
 ghost use Rattle.dp_history.specs.Items.{entry_in, IsIn};
 ghost use Rattle.dp_history.specs.Made.{AreKept, AreMadeOf, WereKept, going_over};
 ghost use Rattle.dp_history.specs.Made.{made_at};
+ghost use Rattle.dp_history.specs.Pages.{IsPageOf, page_most};
 
-use crate::item::{HistoryItem, count_kept, is_kept, write_all};
+use crate::item::{HistoryItem, count_kept, is_kept, put_item, write_all};
 use crate::log::{FrameLog, Sealed};
 use crate::page::PageFrames;
 use crate::segment::Segment;
 use dp_epochs::Event;
 use dp_lists::{prefix_of, rest_of};
 use std::alloc::{AllocError, Global};
+
+/// The most entries of a page.
+const PAGE: usize = 1 << 14;
 
 /// The frames of a history, as far as they were made. An epoch opens with entries of its own, whose
 /// frames are to be made, and with those that it keeps, whose frames were made before.
@@ -125,6 +129,34 @@ fn keep_frames(
     )
 }
 
+/// Puts the frame of the entry at a place into a page, if there is one. It answers how many were
+/// put.
+fn put_one(
+    alloc: Global,
+    journal: &[Event],
+    items: &[HistoryItem],
+    at: usize,
+    page: &mut PageFrames,
+) -> Result<usize, AllocError>
+    requires { All (IsIn journal.now) items.now }
+    ensures put { IfOk result (λ count.
+        IsPageOf (map (entry_in journal.now) items.now) at count page.new) }
+    ensures few { IfOk result (λ count. count ≤ 1) }
+    ensures short { IfOk result (λ count. IsShort count page.new) }
+    ensures err { OnErr result (page.new ≡ []) }
+{
+    match items.get(at) {
+        Some(item) => {
+            put_item(alloc, journal, item, page)?;
+            Ok(1)
+        }
+        None => {
+            page.clear();
+            Ok(0)
+        }
+    }
+}
+
 impl HistoryFrames {
     /// No frame.
     pub fn new(alloc: Global) -> HistoryFrames
@@ -138,7 +170,7 @@ impl HistoryFrames {
     }
 
     /// How many frames were made one after another from a place on.
-    pub fn made_at(&self, at: usize) -> usize
+    fn made_at(&self, at: usize) -> usize
         ensures { result ≡ made_at self.now at }
     {
         if at < self.base {
@@ -154,7 +186,7 @@ impl HistoryFrames {
     /// # Errors
     ///
     /// Memory ran out: no frame is in the page.
-    pub fn put(&self, at: usize, most: usize, page: &mut PageFrames) -> Result<usize, AllocError>
+    fn put(&self, at: usize, most: usize, page: &mut PageFrames) -> Result<usize, AllocError>
         requires made { (history : List Piece) × AreMadeOf self.now history }
         requires some { 0 < most }
         requires most { most ≤ made_at self.now at }
@@ -169,6 +201,43 @@ impl HistoryFrames {
             self.front.put(at, most, page)
         } else {
             self.rest.put(at - self.base, most, page)
+        }
+    }
+
+    /// Puts frames of a history before an end into a page, in place of what there was: those of
+    /// some entries from a place on. It answers how many. Frames that were made are not made
+    /// again, and those of a full segment are shared.
+    ///
+    /// # Errors
+    ///
+    /// Memory ran out: no frame is in the page.
+    pub fn put_page(
+        &self,
+        journal: &[Event],
+        live: &[HistoryItem],
+        end: usize,
+        at: usize,
+        page: &mut PageFrames,
+    ) -> Result<usize, AllocError>
+        requires said { All (IsIn journal.now) live.now }
+        requires made { AreMadeOf self.now (map (entry_in journal.now) live.now) }
+        ensures put { IfOk result (λ count. IsPageOf
+            (take end (map (entry_in journal.now) live.now)) at count page.new) }
+        ensures few { IfOk result (λ count. count ≤ page_most) }
+        ensures short { IfOk result (λ count. IsShort count page.new) }
+        ensures err { OnErr result (page.new ≡ []) }
+    {
+        let made = self.made_at(at).min(end.saturating_sub(at));
+        if made > 0 {
+            self.put(at, PAGE.min(made), page)
+        } else {
+            put_one(
+                self.rest.allocator(),
+                journal,
+                prefix_of(live, end),
+                at,
+                page,
+            )
         }
     }
 

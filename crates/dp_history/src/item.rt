@@ -223,7 +223,7 @@ pub fn copies(
 
 /// Puts the frame of an entry that is kept beside the journal into a page, in place of what there
 /// was.
-pub fn put_item(
+pub(crate) fn put_item(
     alloc: Global,
     journal: &[Event],
     item: &HistoryItem,

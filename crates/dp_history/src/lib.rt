@@ -11,7 +11,7 @@ mod presence;
 mod segment;
 
 pub use frames::HistoryFrames;
-pub use item::{HistoryItem, copies, count_kept, entry, join_entry, name_text, put_item};
+pub use item::{HistoryItem, copies, count_kept, entry, join_entry, name_text};
 pub use opening::Opening;
 pub use page::{Page, PageFrames};
 pub use presence::{first_operator, free_id, next_operator, present_ids};

@@ -14,7 +14,7 @@ use std::marker::Model;
 /// A page of more bytes has one entry.
 pub(crate) const PAGE_BYTES: usize = 1 << 18;
 /// A page of more bytes that are copied has one entry: each link keeps room for its own copies.
-pub(crate) const COPIED_BYTES: usize = 1 << 16;
+pub(crate) const COPIED_BYTES: usize = 1 << 14;
 
 /// Frames of entries, one after another. They are seen as their bytes and the places where they
 /// end.

@@ -2,10 +2,10 @@
 
 use crate::tests::Deed::*;
 use crate::tests::{Deed, event};
+use dp_any_session::SessionCore;
 use dp_epochs::{Answer, Query};
 use dp_frame::Octets;
 use dp_keeper::{MemKeeper, Row, RowBytes, Rows};
-use dp_machine::Machine;
 use dp_messages::{Entry, Msg, put_entry, same};
 use dp_session::{ResumeError, ResumeFault, Session};
 use std::alloc::Global;

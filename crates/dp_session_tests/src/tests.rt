@@ -2,14 +2,15 @@
 
 ghost use Rattle.std.specs.Prelude.{None};
 
+use dp_any_session::SessionCore;
 use dp_epochs::{Answer, Event, Query, Reply, ShutAt};
 use dp_frame::Octets;
+use dp_history::PageFrames;
 use dp_keeper::{KeepError, Keeper, MemKeeper, Row, Rows, SureKeeper};
-use dp_machine::Machine;
 use dp_messages::{Msg, put_entry};
 use dp_msg_draw::Draw;
 use dp_msg_meta::{Control, Ids, Meta};
-use dp_session::{PageFrames, Session};
+use dp_session::Session;
 use std::alloc::Global;
 use std::process::Abort;
 

@@ -1,52 +1,19 @@
 //! What a connection is to get of the history.
 
-ghost use Rattle.std.specs.Prelude.{
-  ◌≡◌,
-  ◌++◌,
-  ◌∷◌,
-  [],
-  List,
-  OnOk,
-  ◌-◌,
-  ℕ,
-  ◌<◌,
-  ◌≤◌,
-  ◌==◌,
-  true,
-  is_some,
-  map,
-  slice_get,
-  take,
-  All,
-  IfOk,
-  OnErr,
-  Some,
-  length,
-};
+ghost use Rattle.std.specs.Prelude.{◌≡◌, ◌==◌, ℕ, [], true, is_some, take, IfOk, OnErr};
 ghost use Rattle.std.specs.List.{list_any};
-ghost use Rattle.std.specs.Option.{option_map};
-ghost use Rattle.dp_acl.specs.Opening.{command_entry};
-ghost use Rattle.dp_epochs.specs.State.{connection_of, entry_of};
+ghost use Rattle.dp_epochs.specs.State.{connection_of};
 ghost use Rattle.dp_epochs.specs.Pull.{page as due_page, pulled_from, pulled_by_left, pulled_where};
+ghost use Rattle.dp_history.specs.Pages.{IsBounded, IsPage};
 ghost use Rattle.dp_tables.specs.SessionLog.{state_in};
-ghost use Rattle.dp_messages.specs.declared.message.Entry.{Entry as Piece};
-ghost use Rattle.dp_messages.specs.Messages.{entry_bytes};
-ghost use Rattle.dp_history.specs.Frames.{IsShort, frames_of};
-ghost use Rattle.dp_history.specs.Pages.{IsBounded, IsPage, page_most};
 ghost use Rattle.dp_tables.specs.Pages.{answer_of};
-ghost use Rattle.dp_history.specs.Items.{entry_in, IsIn, IsSay, join_of, message_of, part_of};
 
 use crate::tables::Tables;
 use dp_commit::is_flagged;
-use dp_epochs::{Answer, Ending, Entries, Event, Place};
-use dp_history::{Page, PageFrames, copies, put_item};
+use dp_epochs::{Answer, Ending, Entries, Place};
+use dp_history::{Page, PageFrames, copies};
 use dp_lists::{prefix_of, rest_of};
-use dp_messages::{Entry, Msg, put_entry};
-use dp_msg_meta::Meta;
-use std::alloc::{AllocError, Global};
-
-/// The most entries of a page.
-const PAGE: usize = 1 << 14;
+use std::alloc::AllocError;
 
 /// What is due of the live history: from a place on up to another.
 #[derive(Clone, Copy)]
@@ -142,46 +109,6 @@ impl Tables {
         }
     }
 
-    /// Puts the frame of an entry of the live history into a page, if it stands before a place. It
-    /// answers how many were put.
-    fn put_one(&self, end: usize, at: usize, page: &mut PageFrames) -> Result<usize, AllocError>
-        ensures put { IfOk result (λ count. (count ≡ length (due_page at 1
-            (take end (state_in self.now).live)))
-            × (page.new ≡ frames_of (due_page at 1 (take end (state_in self.now).live)))) }
-        ensures few { IfOk result (λ count. count ≤ page_most) }
-        ensures short { IfOk result (λ count. IsShort count page.new) }
-        ensures err { OnErr result (page.new ≡ []) }
-    {
-        match prefix_of(&self.live, end).get(at) {
-            Some(item) => {
-                put_item(self.allocator(), &self.journal, item, page)?;
-                Ok(1)
-            }
-            None => {
-                page.clear();
-                Ok(0)
-            }
-        }
-    }
-
-    /// Puts the frames of entries of the live history into a page, those from a place on up to
-    /// another. It answers how many were put.
-    fn put_due(&self, end: usize, at: usize, page: &mut PageFrames) -> Result<usize, AllocError>
-        ensures put { IfOk result (λ count. (most : ℕ) × (count ≡ length (due_page at most
-            (take end (state_in self.now).live)))
-            × (page.new ≡ frames_of (due_page at most (take end (state_in self.now).live)))) }
-        ensures few { IfOk result (λ count. count ≤ page_most) }
-        ensures short { IfOk result (λ count. IsShort count page.new) }
-        ensures err { OnErr result (page.new ≡ []) }
-    {
-        let made = self.frames.made_at(at).min(end.saturating_sub(at));
-        if made > 0 {
-            self.frames.put(at, PAGE.min(made), page)
-        } else {
-            self.put_one(end, at, page)
-        }
-    }
-
     /// Puts what a connection is to get into a page, as frames, from a cursor on: a page of some
     /// length. `None` means that nothing more is to come. It makes no frame that was made before,
     /// and shares those that stand in a full segment.
@@ -204,7 +131,9 @@ impl Tables {
     {
         match self.due(conn, epoch, at) {
             Some(Due { epoch, at, end }) => {
-                let count = self.put_due(end, at as usize, page)?;
+                let count = self
+                    .frames
+                    .put_page(&self.journal, &self.live, end, at as usize, page)?;
                 Ok(Some(Page { epoch, at, count }))
             }
             None => {
