@@ -106,9 +106,12 @@ impl OpList {
 /// Whether an area is one cell, as that of most fills. Then no loop is needed.
 #[inline(always)]
 fn is_one_cell(area: CellArea) -> bool
-    ensures { result ≡ true → area ≡ row_to area.top area.left (area.left + 1) }
+    requires across { area.left ≤ area.right }
+    requires down { area.top ≤ area.bottom }
+    ensures right { result ≡ true → area.right ≡ area.left + 1 }
+    ensures bottom { result ≡ true → area.bottom ≡ area.top + 1 }
 {
-    area.right == area.left.wrapping_add(1) && area.bottom == area.top.wrapping_add(1)
+    area.right - area.left == 1 && area.bottom - area.top == 1
 }
 
 /// Lists of operations of the tiles of a grid, from a row of tiles on. Those of the last rows may

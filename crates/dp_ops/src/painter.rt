@@ -281,14 +281,15 @@ fn color_after(ops: &[PackedOp], color: Pixel) -> (usize, Pixel)
     ensures color { (t : OnTile) (x y : ℕ) → x < 64 → y < 64
         → ops_at t (take result.0 ops.now) x y color ≡ result.1 }
 {
-    let mut color = color;
-    for k in 0..ops.len() {
-        match ops[k].unpacked().color_after(color) {
+    let (mut done, mut color) = (0, color);
+    for op in ops {
+        match op.unpacked().color_after(color) {
             Some(after) => color = after,
-            None => return (k, color),
+            None => return (done, color),
         }
+        done += 1;
     }
-    (ops.len(), color)
+    (done, color)
 }
 
 /// Operations on the tiles of a canvas, by their lists.
