@@ -5,6 +5,7 @@
 bench/gate.py watch PID LOG      the same of a gate that runs already: of the process PID, until it ends
 bench/gate.py table LOG ..       prints the seconds of each crate, as a table for docs/
 bench/gate.py above CRATE LOG ..  prints what a change of this crate's proofs has proved again
+bench/gate.py page LOG ..        writes both tables of docs/gate.md anew, and its sentence of sums
 
 The gate prints no times. So each second the processes below it are read from /proc: the processor
 time of each prover with the copies of itself that it forked, and the most memory that one of them
@@ -176,32 +177,70 @@ def seconds_of(row):
     return sum(row[it][1] for it in KINDS)
 
 
-def table(logs):
-    """Prints the seconds of a processor of each crate, by what was done."""
-    rows = rows_of(logs)
+def table_of(rows):
+    """The seconds of a processor of each crate, by what was done, as lines of a table."""
     heads = ("proof", "compiled", "tests", "of it clang", "proof again")
-    print(f"| crate | {', s | '.join(heads)}, s | edits, s (n) | all, s | GB |")
-    print("|---|---:|---:|---:|---:|---:|---:|---:|---:|")
+    lines = [f"| crate | {', s | '.join(heads)}, s | edits, s (n) | all, s | GB |"]
+    lines.append("|---|---:|---:|---:|---:|---:|---:|---:|---:|")
     show = lambda it: f"{it:.0f}" if it >= 0.5 else "-"
-    names = [it for it in rows if it in listed()]
+    crates = listed()
+    names = [it for it in rows if it in crates]
     for crate in sorted(names, key=lambda it: -seconds_of(rows[it])):
         row = rows[crate]
         edits = f"{show(row['edits'][1])} ({row['edits'][0]})" if row["edits"][0] else "-"
         cells = [show(row[it][1]) for it in ("proof", "compiled", "tests", "clang", "seed")]
-        print(f"| {crate} | {' | '.join(cells)} | {edits} | {seconds_of(row):.0f} | {max(it[2] for it in row.values()) / 1024:.1f} |")
-    sums = {kind: sum(rows[it][kind][1] for it in names) for kind in KINDS}
-    sums["clang"] = sum(rows[it]["clang"][1] for it in names)
+        peak = max(it[2] for it in row.values()) / 1024
+        lines.append(f"| {crate} | {' | '.join(cells)} | {edits} | {seconds_of(row):.0f} | {peak:.1f} |")
+    sums = sums_of(rows)
     cells = [show(sums[it]) for it in ("proof", "compiled", "tests", "clang", "seed", "edits")]
-    print(f"| all | {' | '.join(cells)} | {sum(sums[it] for it in KINDS):.0f} | |")
+    lines.append(f"| all | {' | '.join(cells)} | {sum(sums[it] for it in KINDS):.0f} | |")
+    return lines
 
 
-def above(crate, logs):
-    """Prints which crates stand on this one, with itself, and what proving all of them takes."""
-    rows, crates, found = rows_of(logs), listed(), [crate]
+def sums_of(rows):
+    """The seconds of all crates, by what was done."""
+    names = [it for it in rows if it in listed()]
+    return {kind: sum(rows[it][kind][1] for it in names) for kind in (*KINDS, "clang")}
+
+
+def above(crate, rows):
+    """How many crates stand on this one, with itself, and the minutes that proving them takes."""
+    crates, found = listed(), [crate]
     for it in found:
         found += [name for name, below in crates.items() if it in below and name not in found]
-    took = sum(seconds_of(rows[it]) for it in found if it in rows)
-    print(f"{crate}: {len(found)} crates, {took / 60:.0f} minutes of a processor")
+    return len(found), sum(seconds_of(rows[it]) for it in found if it in rows) / 60
+
+
+def put_table(text, head, lines):
+    """The text with these lines in place of the table whose first line begins like this."""
+    first = text.index(f"\n{head}") + 1
+    return text[:first] + "\n".join(lines) + text[text.index("\n\n", first) :]
+
+
+def sentence_of(rows):
+    """What the gate takes from nothing, in minutes."""
+    sums = {kind: took / 60 for kind, took in sums_of(rows).items()}
+    edits = sums["seed"] + sums["edits"]
+    return (
+        f"From nothing the gate takes some {sum(sums[it] for it in KINDS):.0f} minutes of a processor: "
+        f"{sums['proof']:.0f} for proofs of crates,\n{sums['compiled']:.0f} for the two compilers of each "
+        f"program, {sums['tests']:.0f} for test crates with their tests, and\n{edits:.0f} for the must-fail "
+        "edits, with the further proofs that they begin with."
+    )
+
+
+def page(logs):
+    """Writes the tables of docs/gate.md and its sentence of sums."""
+    name = os.path.join(os.path.dirname(os.path.dirname(os.path.abspath(__file__))), "docs/gate.md")
+    rows, text = rows_of(logs), open(name, encoding="utf-8").read()
+    text = put_table(text, "| crate | proof", table_of(rows))
+    change = re.search(r"\n\| a change in .*\n.*\n((?:\|.*\n)+)", text)
+    crates = [line.split("|")[1].strip() for line in change[1].strip().split("\n")]
+    lines = [f"| {it} | {count} | {took:.0f} |" for it in crates for count, took in [above(it, rows)]]
+    text = text[: change.start(1)] + "\n".join(lines) + "\n" + text[change.end(1) :]
+    first = text.index("From nothing the gate takes")
+    text = text[:first] + sentence_of(rows) + text[text.index("\n\n", first) :]
+    open(name, "w", encoding="utf-8").write(text)
 
 
 if __name__ == "__main__":
@@ -210,7 +249,10 @@ if __name__ == "__main__":
     if len(sys.argv) == 4 and sys.argv[1] == "watch":
         sys.exit(watch(int(sys.argv[2]), sys.argv[3]))
     if len(sys.argv) >= 3 and sys.argv[1] == "table":
-        sys.exit(table(sys.argv[2:]))
+        sys.exit(print("\n".join(table_of(rows_of(sys.argv[2:])))))
     if len(sys.argv) >= 4 and sys.argv[1] == "above":
-        sys.exit(above(sys.argv[2], sys.argv[3:]))
+        count, took = above(sys.argv[2], rows_of(sys.argv[3:]))
+        sys.exit(print(f"{sys.argv[2]}: {count} crates, {took:.0f} minutes of a processor"))
+    if len(sys.argv) >= 3 and sys.argv[1] == "page":
+        sys.exit(page(sys.argv[2:]))
     sys.exit(__doc__)

@@ -28,14 +28,24 @@ impl Answer {
     /// Whether two runs gave the same.
     pub fn same(&self, other: &Answer) -> bool {
         self.status == other.status
-            && self.output.as_slice() == other.output.as_slice()
-            && self.said.as_slice() == other.said.as_slice()
-            && self.sent.as_slice() == other.sent.as_slice()
-            && self.left.as_slice() == other.left.as_slice()
+            && is_same(&self.output, &other.output)
+            && is_same(&self.said, &other.said)
+            && is_same(&self.sent, &other.sent)
+            && is_same(&self.left, &other.left)
     }
 
     /// Whether the other wrote and sent what this one did first.
     pub fn is_cut_from(&self, other: &Answer) -> bool {
-        other.output.starts_with(&self.output) && other.sent.starts_with(&self.sent)
+        is_prefix(&self.output, &other.output) && is_prefix(&self.sent, &other.sent)
     }
+}
+
+/// Whether two texts are the same.
+fn is_same(text: &[u8], other: &[u8]) -> bool {
+    text == other
+}
+
+/// Whether another text begins with this one.
+fn is_prefix(text: &[u8], other: &[u8]) -> bool {
+    other.starts_with(text)
 }

@@ -28,8 +28,18 @@ pub fn put_told<U: Debug, D: Debug>(
     if let Some(conn) = told.conn {
         put_numbered(b" conn ", u64::from(conn), b"", out)?;
     }
-    let ends = format!(in alloc; " up {:?} down {:?}\n", told.up, told.down)?;
-    put_parts(&[ends.as_bytes()], out)
+    put_ends(alloc, &told.up, &told.down, out)
+}
+
+/// Adds how both ends of a link ended.
+fn put_ends<U: Debug, D: Debug>(
+    alloc: Global,
+    up: &U,
+    down: &D,
+    out: &mut Vec<u8>,
+) -> Result<(), AllocError> {
+    let ends = format!(in alloc; " up {up:?} down {down:?}\n")?;
+    out.extend_from_slice(ends.as_bytes())
 }
 
 /// Adds a line for each row that a store holds.

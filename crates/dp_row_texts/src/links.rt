@@ -36,12 +36,17 @@ impl Coming {
 
     /// An equal link.
     pub fn copy(&self, alloc: Global) -> Result<Coming, AllocError> {
-        Ok(Coming {
-            bytes: Vec::from_slice(alloc, &self.bytes)?,
-            pauses: Vec::from_slice(alloc, &self.pauses)?,
-            reads: Vec::from_slice(alloc, &self.reads)?,
-            writes: Vec::from_slice(alloc, &self.writes)?,
-        })
+        let mut copy = Coming::new(Vec::new(alloc));
+        self.put_on(&mut copy)?;
+        Ok(copy)
+    }
+
+    /// Adds all that this link has to another one.
+    fn put_on(&self, other: &mut Coming) -> Result<(), AllocError> {
+        other.bytes.extend_from_slice(&self.bytes)?;
+        other.pauses.extend_from_slice(&self.pauses)?;
+        other.reads.extend_from_slice(&self.reads)?;
+        other.writes.extend_from_slice(&self.writes)
     }
 
     /// Adds what words say of the link, and answers whether they are right ones.
@@ -67,12 +72,13 @@ impl Coming {
         word: &str,
     ) -> Result<bool, AllocError> {
         if let Some(place) = word.strip_prefix('@') {
-            return self.put_pause(place);
-        }
-        match word.split_once('=') {
-            Some(("read", value)) => put_numbers(value, &mut self.reads),
-            Some(("write", value)) => put_numbers(value, &mut self.writes),
-            _ => self.put_bytes(alloc, names, word),
+            self.put_pause(place)
+        } else if let Some(value) = word.strip_prefix("read=") {
+            put_numbers(value, &mut self.reads)
+        } else if let Some(value) = word.strip_prefix("write=") {
+            put_numbers(value, &mut self.writes)
+        } else {
+            self.put_bytes(alloc, names, word)
         }
     }
 
@@ -116,9 +122,8 @@ pub fn put_link(
     let Some(links) = wires.last_mut() else {
         return Ok(false);
     };
-    links.push(Coming::new(Vec::new(alloc)))?;
-    match links.last_mut() {
-        Some(link) => link.put_words(alloc, names, words),
-        None => Ok(false),
-    }
+    let mut link = Coming::new(Vec::new(alloc));
+    let right = link.put_words(alloc, names, words)?;
+    links.push(link)?;
+    Ok(right)
 }

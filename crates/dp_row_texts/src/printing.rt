@@ -32,19 +32,28 @@ pub fn put_bad_row(line: u64, out: &mut Vec<u8>) -> Result<(), AllocError> {
 /// Adds what a run gave.
 pub fn put_answer(answer: &Answer, out: &mut Vec<u8>) -> Result<(), AllocError> {
     put_numbered(b"status ", u64::from(answer.status), b"\n", out)?;
-    match head_len(&answer.output) {
-        Some(len) => {
-            let (head, pixels) = answer.output.split_at(len.min(answer.output.len()));
-            put_head(head, out)?;
-            put_pixels(pixels, out)?;
-        }
-        None => put_text(b"", &answer.output, out)?,
-    }
+    put_output(&answer.output, out)?;
     put_text(b"! ", &answer.said, out)?;
-    if let Some((_, lines)) = answer.sent.split_first() {
-        put_parts(&[lines, b"\n"], out)?;
+    put_lines(&answer.sent, out)?;
+    out.extend_from_slice(&answer.left)
+}
+
+/// Adds an output: a text, or a picture of bytes.
+fn put_output(output: &[u8], out: &mut Vec<u8>) -> Result<(), AllocError> {
+    let Some(len) = head_len(output) else {
+        return put_text(b"", output, out);
+    };
+    let (head, pixels) = output.split_at(len.min(output.len()));
+    put_head(head, out)?;
+    put_pixels(pixels, out)
+}
+
+/// Adds lines that have their newlines before them.
+fn put_lines(lines: &[u8], out: &mut Vec<u8>) -> Result<(), AllocError> {
+    match lines.split_first() {
+        Some((_, lines)) => put_parts(&[lines, b"\n"], out),
+        None => Ok(()),
     }
-    put_parts(&[&answer.left], out)
 }
 
 /// Adds a text after this, and what says that it has no newline at its end.

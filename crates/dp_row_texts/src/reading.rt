@@ -221,10 +221,15 @@ fn put_repeated(
 ) -> Result<bool, AllocError> {
     let (times, lines) = rest.split_once(' ').unwrap_or((rest, ""));
     let times = times.parse::<u64>().unwrap_or(0);
+    put_part(lines_of(alloc, names, times, lines)?, input)?;
+    Ok(times > 0)
+}
+
+/// Lines of text, so often.
+fn lines_of(alloc: Global, names: &Names<'_>, times: u64, lines: &str) -> Result<Part, AllocError> {
     let mut bytes = Vec::new(alloc);
     put_lines(names, lines, &mut bytes)?;
-    put_part(Part { times, bytes }, input)?;
-    Ok(times > 0)
+    Ok(Part { times, bytes })
 }
 
 /// Adds lines of text.

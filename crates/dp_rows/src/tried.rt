@@ -1,7 +1,8 @@
 //! Trials of a row: its links with each damage in turn.
 
 use crate::running::{Tried, answer_to};
-use dp_row_texts::{Answer, Row, Trial, put_answer, put_numbered, put_parts, trials_of};
+use dp_row_texts::{Answer, Row, put_answer, put_numbered, put_parts};
+use dp_row_trials::{Trial, trials_of};
 use std::alloc::{AllocError, Global};
 use std::sync::Wait;
 use std::thread::Threads;

@@ -2,10 +2,8 @@
 
 ghost use Rattle.std.specs.Prelude.{◌≤◌, length};
 
-use crate::links::Coming;
-use crate::printing::put_numbered;
-use crate::tables::Table;
 use dp_lines::put_hex;
+use dp_row_texts::{Coming, Table, put_numbered};
 use std::alloc::{AllocError, Global};
 
 /// What is wrong with a link, and at which of its frames or calls.

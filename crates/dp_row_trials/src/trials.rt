@@ -1,11 +1,9 @@
 //! Trials of a row: runs over its links with damages of the first one.
 
-use crate::answer::Answer;
 use crate::damage::{Damage, damages_of, frames_of};
-use crate::joined::client_answer;
-use crate::links::Coming;
-use crate::row::Row;
-use crate::served::server_answer;
+use crate::joined::put_client_answer;
+use crate::served::put_server_answer;
+use dp_row_texts::{Answer, Coming, Row};
 use std::alloc::{AllocError, Global};
 
 /// A run over damaged links, and what it is to give.
@@ -68,26 +66,34 @@ fn trial_of<'a>(
     damage: Damage<'a>,
     piece: usize,
 ) -> Result<Trial, AllocError> {
-    let mut wires = wires_with(alloc, &row.wires, damage.done_to(alloc, link, frames)?)?;
-    let due = due_of(alloc, row, frames, damage, piece, &mut wires)?;
-    let mut name = Vec::new(alloc);
-    damage.put_name(&mut name)?;
-    Ok(Trial { name, wires, due })
+    let mut trial = Trial {
+        name: Vec::new(alloc),
+        wires: wires_with(alloc, &row.wires, damage.done_to(alloc, link, frames)?)?,
+        due: Answer::new(alloc),
+    };
+    put_due(alloc, row, frames, damage, piece, &mut trial)?;
+    Ok(trial)
 }
 
-/// What a run over a damaged link is to give.
-fn due_of<'a>(
+/// Puts the name of a trial, and what it is to give.
+fn put_due<'a>(
     alloc: Global,
     row: &'a Row,
     frames: &[&'a [u8]],
     damage: Damage<'a>,
     piece: usize,
-    wires: &mut [Vec<Coming>],
-) -> Result<Answer, AllocError> {
+    trial: &mut Trial,
+) -> Result<(), AllocError> {
+    damage.put_name(&mut trial.name)?;
+    let Trial {
+        name: _,
+        wires,
+        due,
+    } = trial;
     if row.table.placed.is_empty() {
-        client_answer(alloc, &row.table.steps, frames, damage, piece)
+        put_client_answer(alloc, &row.table.steps, frames, damage, piece, due)
     } else {
-        server_answer(alloc, &row.table, frames, damage, piece, wires)
+        put_server_answer(alloc, row, frames, damage, piece, wires, due)
     }
 }
 

@@ -1,43 +1,30 @@
 //! What a client over a damaged link is to give.
 
-use crate::answer::Answer;
 use crate::damage::{Damage, place_of, whole_within};
-use crate::printing::put_numbered;
-use crate::tables::{Does, Step};
 use dp_lines::put_hex;
+use dp_row_texts::{Answer, Does, Step, put_numbered};
 use std::alloc::{AllocError, Global};
 
-/// How a run ends if a step wants more frames than came whole, and how many bytes are sent
-/// before a write fails.
-#[derive(Drop)]
+/// How a run ends if a step wants more frames than came whole, and where these end. Then how many
+/// bytes are sent before a write fails.
+#[derive(Clone, Copy)]
 struct Limits {
     whole: usize,
+    at: usize,
     status: u8,
-    said: Vec<u8>,
     sent: usize,
 }
 
-/// What the client gives that takes these steps over a link with this damage.
-pub fn client_answer(
+/// Puts what the client gives that takes these steps over a link with this damage into an answer.
+pub fn put_client_answer(
     alloc: Global,
     steps: &[Step],
     frames: &[&[u8]],
     damage: Damage<'_>,
     piece: usize,
-) -> Result<Answer, AllocError> {
-    let limits = limits_of(alloc, frames, damage, piece)?;
-    let mut answer = Answer::new(alloc);
-    put_client_answer(alloc, steps, &limits, &mut answer)?;
-    Ok(answer)
-}
-
-/// Puts what the client gives into an answer.
-fn put_client_answer(
-    alloc: Global,
-    steps: &[Step],
-    limits: &Limits,
     answer: &mut Answer,
 ) -> Result<(), AllocError> {
+    let limits = limits_of(frames, damage, piece);
     let mut sent = Vec::new(alloc);
     take_steps(steps, limits, answer, &mut sent)?;
     put_sent(&sent, &mut answer.sent)
@@ -52,7 +39,7 @@ fn put_sent(sent: &[u8], text: &mut Vec<u8>) -> Result<(), AllocError> {
 /// Takes steps, up to the first after which the client doesn't go on.
 fn take_steps(
     steps: &[Step],
-    limits: &Limits,
+    limits: Limits,
     answer: &mut Answer,
     sent: &mut Vec<u8>,
 ) -> Result<(), AllocError> {
@@ -67,37 +54,43 @@ fn take_steps(
 /// Takes a step, and answers whether the client goes on.
 fn take_step(
     step: &Step,
-    limits: &Limits,
+    limits: Limits,
     answer: &mut Answer,
     sent: &mut Vec<u8>,
 ) -> Result<bool, AllocError> {
     if step.wanted > limits.whole {
         answer.status = limits.status;
-        answer.said.extend_from_slice(&limits.said)?;
+        put_end(limits.status, limits.at, &mut answer.said)?;
         return Ok(false);
     }
     match &step.does {
-        Does::Print(text) => answer.output.extend_from_slice(text)?,
-        Does::Send(bytes) => {
-            let room = limits.sent.saturating_sub(sent.len());
-            sent.extend_from_slice(&bytes[..room.min(bytes.len())])?;
-            if room < bytes.len() {
-                answer.status = 5;
-                answer.said.extend_from_slice(b"link fault\n")?;
-                return Ok(false);
-            }
+        Does::Print(text) => {
+            answer.output.extend_from_slice(text)?;
+            Ok(true)
         }
+        Does::Send(bytes) => send(bytes, limits.sent, answer, sent),
     }
-    Ok(true)
+}
+
+/// Sends bytes up to this many in all, and answers whether the client goes on.
+fn send(
+    bytes: &[u8],
+    most: usize,
+    answer: &mut Answer,
+    sent: &mut Vec<u8>,
+) -> Result<bool, AllocError> {
+    let room = most.saturating_sub(sent.len());
+    sent.extend_from_slice(&bytes[..room.min(bytes.len())])?;
+    if room >= bytes.len() {
+        return Ok(true);
+    }
+    answer.status = 5;
+    put_end(5, 0, &mut answer.said)?;
+    Ok(false)
 }
 
 /// How far the link goes with this damage.
-fn limits_of(
-    alloc: Global,
-    frames: &[&[u8]],
-    damage: Damage<'_>,
-    piece: usize,
-) -> Result<Limits, AllocError> {
+fn limits_of(frames: &[&[u8]], damage: Damage<'_>, piece: usize) -> Limits {
     let all = frames.len();
     let (whole, status, sent) = match damage {
         Damage::Cut(len) => (whole_within(frames, len), 11, usize::MAX),
@@ -106,14 +99,12 @@ fn limits_of(
         Damage::Read(call) => (read_whole(frames, call, piece), 5, usize::MAX),
         Damage::Write(call) => (all, 5, call.saturating_sub(1)),
     };
-    let mut said = Vec::new(alloc);
-    put_end(status, place_of(frames, whole), &mut said)?;
-    Ok(Limits {
+    Limits {
         whole,
+        at: place_of(frames, whole),
         status,
-        said,
         sent,
-    })
+    }
 }
 
 /// Adds what is said of a run that ends with this status, at this place of the link.
