@@ -1,18 +1,15 @@
 -- Rows of which a part is changed, row after row.
 use Rattle.std.proofs.Common.{◌≡◌, ℕ, ◌+◌, ◌-◌, ◌*◌, ◌/◌, ◌%◌, ◌<◌, ◌≤◌, List, length, map}
-use Rattle.std.proofs.Common.{drop, get_or, set, Bool, true, false, sym, ◌∙◌, ap, ◌≢◌, inl, inr}
-use Rattle.std.proofs.Common.{get_or-set_other}
-use Rattle.std.proofs.lemmas.Grind.{get_or-set_at}
-use Rattle.std.proofs.lemmas.Bool.Decides.{eqb_tells}
+use Rattle.std.proofs.Common.{drop, get_or, true, false, sym, ◌∙◌, ap}
 use Rattle.std.proofs.Common.{subst, arith, ⊎_elim, length-append}
 use Rattle.std.specs.Prelude.{if◌then◌else◌}
 use Rattle.std.proofs.lemmas.Bool.{cases_lt, cond-true, cond-false}
 use Rattle.std.proofs.lemmas.Bool.Decides.{nat_tests}
 use Rattle.std.proofs.lemmas.List.{get_or-take, get_or-drop, length-take-le, length-take}
-use Rattle.std.proofs.lemmas.List.{length-drop, length-map, length-set, get_or-map, get_or_default}
+use Rattle.std.proofs.lemmas.List.{length-drop, length-map, get_or-map}
 use Rattle.std.proofs.lemmas.Nat.{div-add-mod', mod_below, div_below}
 use Rattle.std.proofs.Math.Nat.{mul-le-mul_right}
-use Rattle.dp_blend.specs.Color.{Channels, clear}
+use Rattle.dp_blend.specs.Color.{Channels}
 use Rattle.dp_blend.specs.Blending.{is_between}
 use Rattle.dp_blend.proofs.Written.{part_above, part_below, part_within}
 use borrow.Rule.Slice.PartMut.{mid_of, put_mid}
@@ -138,77 +135,3 @@ part_filled f left right size old part order within size_is made x d in_row =
     ∙ sym (cond-false (is_between left right x) _ _ test))
     (cases_lt x right))
     (cases_lt x left)
-
--- ---- a row that is changed two places at a time
-
--- of a list in which a place and the next are written: what stands at the first
-pub first_written : (xs : List Channels) (at k : ℕ) (x y d : Channels) → k ≡ at → at < length xs
-    → get_or (set (set xs at x) (at + 1) y) k d ≡ x
-first_written xs at k x y d here inside =
-    get_or-set_other (set xs at x) (at + 1) k y d (omega arith)
-    ∙ get_or-set_at xs at k x d here inside
-
--- at the second
-pub second_written : (xs : List Channels) (at k : ℕ) (x y d : Channels) → k ≡ at + 1
-    → at + 1 < length xs → get_or (set (set xs at x) (at + 1) y) k d ≡ y
-second_written xs at k x y d next inside =
-    get_or-set_at (set xs at x) (at + 1) k y d next (omega (arith, length-set xs at x))
-
--- and at another place
-pub other_written : (xs : List Channels) (at k : ℕ) (x y d : Channels) → k ≢ at → k ≢ at + 1
-    → get_or (set (set xs at x) (at + 1) y) k d ≡ get_or xs k d
-other_written xs at k x y d first second =
-    get_or-set_other (set xs at x) (at + 1) k y d second ∙ get_or-set_other xs at k x d first
-
--- as many places
-pub two_written_length : (xs : List Channels) (at : ℕ) (x y : Channels)
-    → length (set (set xs at x) (at + 1) y) ≡ length xs
-two_written_length xs at x y = length-set (set xs at x) (at + 1) y ∙ length-set xs at x
-
--- a row is changed from one column on before another
-pub record FilledBetween (f : Channels → Channels) (left right : ℕ) (old now : List Channels)
-    : Type 0 where
-  pub count : length now ≡ length old
-  pub places : (k : ℕ) (d : Channels) → k < length old
-      → get_or now k d ≡ changed_between f left right k (get_or old k d)
-
--- two more places are changed
-pub filled-two : (f : Channels → Channels) (left n m : ℕ) (old now written : List Channels)
-    → left ≤ n → n + 1 < length old → m ≡ n + 2
-    → written ≡ set (set now n (f (get_or now n clear))) (n + 1) (f (get_or now (n + 1) clear))
-    → FilledBetween f left n old now → FilledBetween f left m old written
-filled-two f left n m old now written order inside two is before =
-    let x = f (get_or now n clear) in
-    let y = f (get_or now (n + 1) clear) in
-    let long : n + 1 < length now = omega (arith, before.count) in
-    let kept : (k : ℕ) (d : Channels) → n ≤ k → k < length old
-    → get_or now k clear ≡ get_or old k d = λ k d from in_row.
-    let test : is_between left n k ≡ false = grind (arith, nat_tests) in
-    before.places k clear in_row ∙ cond-false (is_between left n k) _ _ test
-    ∙ get_or_default old k clear d in_row in
-    let changed : (k : ℕ) (d : Channels) → n ≤ k → k < n + 2 → k < length old
-    → f (get_or now k clear) ≡ changed_between f left m k (get_or old k d) =
-    λ k d from to in_row.
-    let test : is_between left m k ≡ true = grind (arith, nat_tests) in
-    ap f (kept k d from in_row) ∙ sym (cond-true (is_between left m k) _ _ test) in
-    let others : (k : ℕ) (d : Channels) → k ≢ n → k ≢ n + 1 → k < length old
-    → get_or now k d ≡ changed_between f left m k (get_or old k d) = λ k d first second in_row.
-    let same : is_between left n k ≡ is_between left m k = grind (arith, nat_tests) in
-    before.places k d in_row
-    ∙ ap (λ (b : Bool). if b then f (get_or old k d) else get_or old k d) same in
-    record {
-      count = ap length is ∙ two_written_length now n x y ∙ before.count;
-      places = λ k d in_row.
-          ap (λ (l : List Channels). get_or l k d) is
-          ∙ elim (eqb_tells k n) [
-            | inl e ↦ first_written now n k x y d e.1 (omega arith)
-                ∙ ap (λ i. f (get_or now i clear)) (sym e.1)
-                ∙ changed k d (omega (arith, e.1)) (omega (arith, e.1)) in_row
-            | inr e ↦ elim (eqb_tells k (n + 1)) [
-              | inl h ↦ second_written now n k x y d h.1 long
-                  ∙ ap (λ i. f (get_or now i clear)) (sym h.1)
-                  ∙ changed k d (omega (arith, h.1)) (omega (arith, h.1)) in_row
-              | inr h ↦ other_written now n k x y d e.1 h.1 ∙ others k d e.1 h.1 in_row
-            ]
-          ];
-    }

@@ -171,23 +171,6 @@ chosen m n p q x y = pick (m == 0) (n == 0)
     pick false true = refl
     pick false false = refl
 
--- and so they are lanes of pixels, if both vectors are
-pub are_kept : (m n : ℕ) (d e : Channels) → IsPixel d → IsPixel e
-    → {v masks old others : List ℕ} → masks ≡ fours m n → old ≡ lanes d e → ArePixels others
-    → v ≡ sel_l (map (λ k. k == 0) masks) old others → ArePixels v
-are_kept m n d e h k by old others is =
-    record {
-      first = cond (m == 0) d others.first;
-      second = cond (n == 0) e others.second;
-      is = is ∙ rw (by, old, others.is) (chosen m n d e others.first others.second);
-      first_pixel = either (m == 0) d others.first h others.first_pixel;
-      second_pixel = either (n == 0) e others.second k others.second_pixel;
-    }
-  where
-    either : (b : Bool) (p q : Channels) → IsPixel p → IsPixel q → IsPixel (cond b p q)
-    either true p q i j = i
-    either false p q i j = j
-
 masked-IsPixel : (mode : Mode) (s : Channels) (m : ℕ) (d : Channels) → IsPixel s → IsPixel d
     → m ≤ 32768 → IsPixel (masked mode s m d)
 masked-IsPixel mode s m d h k i = pick (m == 0)

@@ -186,25 +186,6 @@ pub(crate) fn fill_two<F: Fill>(fill: F, row: &[Pixel], at: usize, next: usize) 
     pixels_of(fill.fill_lanes(lanes_of(&row[at], &row[next])))
 }
 
-/// A source, blended with each of two pixels of a row, at a place and at the next, that isn't kept.
-#[inline(always)]
-pub(crate) fn fill_not_kept<F: Fill>(
-    fill: F,
-    keeps: (bool, bool),
-    row: &[Pixel],
-    at: usize,
-) -> (Pixel, Pixel)
-    requires { at + 1 < length row.now }
-    ensures first { result.0 ≡ (if keeps.0 then slice_index_or row.now at clear
-        else blend (F.mode fill) (F.source fill) (slice_index_or row.now at clear)) }
-    ensures second { result.1 ≡ (if keeps.1 then slice_index_or row.now (at + 1) clear
-        else blend (F.mode fill) (F.source fill) (slice_index_or row.now (at + 1) clear)) }
-{
-    let masks = fours_of(!keeps.0 as u16, !keeps.1 as u16);
-    let old = lanes_of(&row[at], &row[at + 1]);
-    pixels_of(kept_where_zero(masks, old, fill.fill_lanes(old)))
-}
-
 /// A number that sources are faded by throughout a row.
 pub(crate) trait Fading: Copy {
     ghost by: { Self → ℕ };

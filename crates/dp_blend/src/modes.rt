@@ -24,6 +24,7 @@ pub enum Mode {
 
 impl Mode {
     /// The mode that a number names in a message. `None` for a number that isn't listed.
+    #[inline]
     pub fn from_u8(n: u8) -> Option<Mode>
         ensures value { result ≡ mode_numbered n }
         ensures number { IfSome result (λ mode. number_of mode ≡ n) }

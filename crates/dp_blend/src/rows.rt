@@ -1,12 +1,11 @@
 //! Rows of pixels: one source for each pixel, one through a mask, and a source at each place.
 //!
 //! Two pixels are blended at a time, and the last of an odd row by itself. A turn of a loop blends
-//! eight, so that what is the same for all is worked out once for them. If few columns of rows are
-//! filled, the first and the last may be half of a pair, whose other pixel is kept.
+//! eight, so that what is the same for all is worked out once for them.
 //!
 //! The rule: docs/protocol.md, "Numbers and blending".
 
-ghost use Rattle.std.specs.Prelude.{◌≡◌, ◌<◌, ◌≤◌, ◌+◌, ◌*◌, ◌/◌, ◌%◌, ℕ};
+ghost use Rattle.std.specs.Prelude.{◌≡◌, ◌<◌, ◌≤◌, ◌+◌, ◌-◌, ◌*◌, ◌/◌, ◌%◌, ℕ};
 ghost use Rattle.std.specs.Prelude.{length, All, if◌then◌else◌};
 ghost use Rattle.std.specs.Prelude.{slice_index, slice_index_or, slice_set};
 ghost use Rattle.dp_blend.specs.Color.{Channels, clear, fade};
@@ -16,12 +15,12 @@ ghost use Rattle.dp_blend.specs.Blending.{row_merged};
 use crate::color::{ONE, Pixel};
 use crate::kernels::{
     Adding, Covering, Erasing, Faded, Fading, Fill, Kernel, Multiplying, Recoloring, Replacing,
-    Seen, Source, Whole, blend_two, fill_not_kept, fill_two, merge_two,
+    Seen, Source, Whole, blend_two, fill_two, merge_two,
 };
 use crate::modes::Mode;
 
-/// How many columns are few.
-const FEW: usize = 16;
+/// From how many columns on rows are filled one by one.
+const MANY: usize = 32;
 
 /// Blends the source with each pixel of the row, faded by the mask at its place: 32768 blends all
 /// of it, and if the mask is 0 the pixel stays.
@@ -132,8 +131,8 @@ fn blend_by<K: Kernel>(src: Pixel, mask: &[u16], row: &mut [Pixel])
     }
 }
 
-/// `rows_fill` with a source and its mode. Few columns are filled two at a time, from an even one
-/// on, so that no row ends with a pixel by itself.
+/// `rows_fill` with a source and its mode. If there are few columns, first 16 of them are filled in
+/// all rows, then 8, 4, 2 and 1. The compiler knows these numbers, and no row has a loop of its own.
 fn rows_by<F: Fill>(fill: F, left: usize, right: usize, stride: usize, rows: &mut [Pixel])
     requires some { 0 < stride }
     requires order { left ≤ right }
@@ -145,15 +144,49 @@ fn rows_by<F: Fill>(fill: F, left: usize, right: usize, stride: usize, rows: &mu
         then blend (F.mode fill) (F.source fill) (slice_index_or rows.old k d)
         else slice_index_or rows.old k d) }
 {
-    let pairs = right.div_ceil(2);
-    if right - left <= FEW && left / 2 + 1 < pairs && pairs <= stride / 2 {
-        rows_by_pairs(fill, left, right, stride, rows);
-    } else {
-        rows_by_parts(fill, left, right, stride, rows);
+    if right - left >= MANY {
+        return rows_by_parts(fill, left, right, stride, rows);
     }
+    let sixteens = fill_columns(fill, 16, left, right, stride, rows);
+    let eights = fill_columns(fill, 8, sixteens, right, stride, rows);
+    let fours = fill_columns(fill, 4, eights, right, stride, rows);
+    let twos = fill_columns(fill, 2, fours, right, stride, rows);
+    fill_columns(fill, 1, twos, right, stride, rows);
+}
+
+/// `rows_by` on `count` columns from one on, if there are as many before `right`. Gives the next
+/// column.
+#[inline(always)]
+fn fill_columns<F: Fill>(
+    fill: F,
+    count: usize,
+    from: usize,
+    right: usize,
+    stride: usize,
+    rows: &mut [Pixel],
+) -> usize
+    requires some { 0 < stride }
+    requires order { from ≤ right }
+    requires within { right ≤ stride }
+    requires whole { length rows.old % stride ≡ 0 }
+    ensures from { from ≤ result }
+    ensures within { result ≤ right }
+    ensures few { right - from < 2 * count → right - result < count }
+    ensures count { length rows.new ≡ length rows.old }
+    ensures places { (k : ℕ) (d : Channels) → k < length rows.old →
+        slice_index_or rows.new k d ≡ (if is_between from result (k % stride)
+        then blend (F.mode fill) (F.source fill) (slice_index_or rows.old k d)
+        else slice_index_or rows.old k d) }
+{
+    if right - from < count {
+        return from;
+    }
+    rows_by_parts(fill, from, from + count, stride, rows);
+    from + count
 }
 
 /// `rows_by`, row by row.
+#[inline(always)]
 fn rows_by_parts<F: Fill>(fill: F, left: usize, right: usize, stride: usize, rows: &mut [Pixel])
     requires some { 0 < stride }
     requires order { left ≤ right }
@@ -171,24 +204,6 @@ fn rows_by_parts<F: Fill>(fill: F, left: usize, right: usize, stride: usize, row
     }
 }
 
-/// `rows_by`, row by row and two columns at a time from an even one on.
-fn rows_by_pairs<F: Fill>(fill: F, left: usize, right: usize, stride: usize, rows: &mut [Pixel])
-    requires some { 0 < stride }
-    requires pairs { left / 2 + 1 < (right + 1) / 2 }
-    requires within { (right + 1) / 2 * 2 ≤ stride }
-    requires whole { length rows.old % stride ≡ 0 }
-    ensures count { length rows.new ≡ length rows.old }
-    ensures places { (k : ℕ) (d : Channels) → k < length rows.old →
-        slice_index_or rows.new k d ≡ (if is_between left right (k % stride)
-        then blend (F.mode fill) (F.source fill) (slice_index_or rows.old k d)
-        else slice_index_or rows.old k d) }
-{
-    for j in 0..rows.len() / stride {
-        let start = j * stride;
-        fill_pairs(fill, left, right, &mut rows[start..start + stride]);
-    }
-}
-
 /// Blends the source with the pixels of a row from column `left` on before `right`. All others
 /// stay.
 #[inline(always)]
@@ -202,55 +217,6 @@ fn fill_part<F: Fill>(fill: F, left: usize, right: usize, row: &mut [Pixel])
         else slice_index_or row.old k d) }
 {
     fill_by(fill, &mut row[left..right]);
-}
-
-/// `fill_part`, two pixels at a time from an even column on. Of the first two and of the last two
-/// one may be kept.
-#[inline(always)]
-fn fill_pairs<F: Fill>(fill: F, left: usize, right: usize, row: &mut [Pixel])
-    requires pairs { left / 2 + 1 < (right + 1) / 2 }
-    requires within { (right + 1) / 2 * 2 ≤ length row.old }
-    ensures count { length row.new ≡ length row.old }
-    ensures places { (k : ℕ) (d : Channels) → k < length row.old →
-        slice_index_or row.new k d ≡ (if is_between left right k
-        then blend (F.mode fill) (F.source fill) (slice_index_or row.old k d)
-        else slice_index_or row.old k d) }
-{
-    let (first, last) = (left / 2, right.div_ceil(2) - 1);
-    fill_edge(fill, (left % 2 == 1, false), row, 2 * first);
-    fill_inside(fill, first + 1, last, row);
-    fill_edge(fill, (false, right % 2 == 1), row, 2 * last);
-}
-
-/// Blends the source with the pixels at a place of a row and at the next, but for one that is kept.
-#[inline(always)]
-fn fill_edge<F: Fill>(fill: F, keeps: (bool, bool), row: &mut [Pixel], at: usize)
-    requires { at + 1 < length row.old }
-    ensures { row.new ≡ slice_set (slice_set row.old at
-        (if keeps.0 then slice_index_or row.old at clear
-        else blend (F.mode fill) (F.source fill) (slice_index_or row.old at clear))) (at + 1)
-        (if keeps.1 then slice_index_or row.old (at + 1) clear
-        else blend (F.mode fill) (F.source fill) (slice_index_or row.old (at + 1) clear)) }
-{
-    let (first, second) = fill_not_kept(fill, keeps, row, at);
-    row[at] = first;
-    row[at + 1] = second;
-}
-
-/// Blends the source with the pairs of pixels of a row from one on before another.
-#[inline(always)]
-fn fill_inside<F: Fill>(fill: F, from: usize, to: usize, row: &mut [Pixel])
-    requires order { from ≤ to }
-    requires within { to * 2 ≤ length row.old }
-    ensures count { length row.new ≡ length row.old }
-    ensures places { (k : ℕ) (d : Channels) → k < length row.old →
-        slice_index_or row.new k d ≡ (if is_between (2 * from) (2 * to) k
-        then blend (F.mode fill) (F.source fill) (slice_index_or row.old k d)
-        else slice_index_or row.old k d) }
-{
-    for k in from..to {
-        fill_next(fill, row, 2 * k);
-    }
 }
 
 /// `row_fill` with a source and its mode: eight pixels at a time, and then the last ones.
