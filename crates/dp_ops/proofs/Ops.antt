@@ -1,6 +1,6 @@
 -- Operations on tiles.
 use Rattle.std.proofs.Common.{◌≡◌, ℕ, ◌+◌, ◌-◌, ◌*◌, ◌/◌, ◌%◌, ◌<◌, ◌≤◌, List, [], ◌∷◌, ◌++◌}
-use Rattle.std.proofs.Common.{length, get_or, take, cond, true, false, ◌&&◌, leb, ltb}
+use Rattle.std.proofs.Common.{length, get_or, take, drop, cond, true, false, ◌&&◌, leb, ltb}
 use Rattle.std.proofs.Common.{refl, sym, ◌∙◌, ap, arith, ◌⊎◌, ⊎_elim, replicate, min}
 use Rattle.std.specs.Prelude.{pos, ◌+ℤ◌, ◌-ℤ◌, Option, Some, None}
 use Rattle.std.specs.Prelude.{Bool, ◌==◌}
@@ -8,7 +8,7 @@ use Rattle.std.proofs.lemmas.Int.{ints}
 use Rattle.std.proofs.lemmas.Bool.{cases_lt, cases_Bool, cond-false, cond-true, false≢true}
 use Rattle.std.proofs.lemmas.Bool.{false_from_ne_true, and_parts}
 use Rattle.std.proofs.lemmas.Bool.{le-leb, lt-ltb, leb-true, ltb-true}
-use Rattle.std.proofs.lemmas.List.{take_more, length-replicate}
+use Rattle.std.proofs.lemmas.List.{take_more, take_all, take-append-drop, length-replicate}
 use Rattle.std.proofs.lemmas.List.{replicate-append-replicate}
 use Rattle.std.proofs.Math.Seq.{take-append-add, take-append_seam}
 use Rattle.std.proofs.lemmas.List.Sums.{fold-append}
@@ -132,6 +132,33 @@ tile_becomes t ops p q pixels each is =
     ∙ pixel-tile_of p (y * 64 + x) (omega (arith, in_x, in_y)) in
     pixel-tile_of q (y * 64 + x) (omega (arith, in_x, in_y))
     ∙ sym (ap (ops_at t ops x y) old ∙ each x y in_x in_y)))
+
+-- a tile of a colour of which the first operations make one of another colour: the others are left
+pub tile_rest : (t : OnTile) (ops : List TileOp) (n : ℕ) (p q : Channels)
+    → ((x y : ℕ) → x < 64 → y < 64 → ops_at t (take n ops) x y p ≡ q)
+    → tile_after t (drop n ops) (tile_of q) ≡ tile_after t ops (tile_of p)
+tile_rest t ops n p q each =
+    let left = drop n ops in
+    is_tile_after t ops (tile_of p) (tile_after t left (tile_of q))
+    (length-tile_after t left (tile_of q))
+    (λ x y in_x in_y.
+    let old = pixel_at 64 (tile_of p) x y in
+    let is_old : old ≡ p = pixel-tile_of p (y * 64 + x) (omega (arith, in_x, in_y)) in
+    let is_new : pixel_at 64 (tile_of q) x y ≡ ops_at t (take n ops) x y old =
+    pixel-tile_of q (y * 64 + x) (omega (arith, in_x, in_y))
+    ∙ sym (ap (ops_at t (take n ops) x y) is_old ∙ each x y in_x in_y) in
+    pixel-tile_after t left (tile_of q) x y in_x in_y
+    ∙ ap (ops_at t left x y) is_new
+    ∙ sym (fold-append (λ (under : Channels) (o : TileOp). op_at t o x y under) old (take n ops)
+    left)
+    ∙ ap (λ (l : List TileOp). ops_at t l x y old) (take-append-drop n ops))
+
+-- a tile of a colour of which all operations make one of another colour
+pub all_after : (t : OnTile) (ops : List TileOp) (n : ℕ) (p q : Channels) → length ops ≤ n
+    → ((x y : ℕ) → x < 64 → y < 64 → ops_at t (take n ops) x y p ≡ q)
+    → (x y : ℕ) → x < 64 → y < 64 → ops_at t ops x y p ≡ q
+all_after t ops n p q all each x y in_x in_y =
+    ap (λ (l : List TileOp). ops_at t l x y p) (sym (take_all n ops all)) ∙ each x y in_x in_y
 
 -- ---- the part of a fill on a tile
 

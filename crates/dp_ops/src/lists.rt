@@ -103,6 +103,17 @@ impl OpList {
     }
 }
 
+/// Whether an area is one cell, as that of most fills. Then no loop is needed.
+#[inline(always)]
+fn is_one_cell(area: CellArea) -> bool
+    requires across { area.left ≤ area.right }
+    requires down { area.top ≤ area.bottom }
+    ensures right { result ≡ true → area.right ≡ area.left + 1 }
+    ensures bottom { result ≡ true → area.bottom ≡ area.top + 1 }
+{
+    area.right - area.left == 1 && area.bottom - area.top == 1
+}
+
 /// Lists of operations of the tiles of a grid, from a row of tiles on. Those of the last rows may
 /// not be there yet.
 #[derive(Drop)]
@@ -240,6 +251,9 @@ impl TileLists {
     {
         let count = (area.right - area.left) * (area.bottom - area.top);
         self.added = self.added.saturating_add(count as usize);
+        if is_one_cell(area) {
+            return self.add_at(source, area.left, area.top);
+        }
         for row in area.top..area.bottom {
             self.add_row(source, row, area.left, area.right)?;
         }
@@ -284,6 +298,9 @@ impl TileLists {
         requires first { self.old.first ≤ area.top }
         ensures { IsChangedOn area (IsFinished how) self.old self.new }
     {
+        if is_one_cell(area) {
+            return self.finish_at(area.left, area.top, how);
+        }
         for row in area.top..area.bottom {
             self.finish_row(row, area.left, area.right, how);
         }

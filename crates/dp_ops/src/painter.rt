@@ -14,7 +14,7 @@ ghost use Rattle.dp_ops.specs.Lists.{listed_at, waiting_tile};
 
 use crate::fetch::{Fill, read_tile};
 use crate::lists::TileLists;
-use crate::op::{PackedOp, TileOp};
+use crate::op::PackedOp;
 use crate::put::TileRun;
 use crate::sheet::Sheet;
 use dp_blend::{Mode, Pixel, blend, of_argb};
@@ -234,39 +234,16 @@ pub fn show_ops(
         (tile_pixels color pixels.old) }
     ensures count { length pixels.new ≡ 4096 }
 {
-    let mut color = color;
-    for op in ops {
-        color = show_op(on, col, row, op.unpacked(), color, pixels);
-    }
-    color
-}
-
-/// Draws an operation in the same way.
-fn show_op(
-    on: &Sheet<'_>,
-    col: u32,
-    row: u32,
-    op: TileOp,
-    color: Option<Pixel>,
-    pixels: &mut [Pixel],
-) -> Option<Pixel>
-    requires col { col < 64 }
-    requires row { row < 64 }
-    requires count { length pixels.old ≡ 4096 }
-    ensures shown { tile_pixels result pixels.new ≡ tile_after
-        (on_tile on.now.width on.now.height on.now.commands.now col row) (op ∷ [])
-        (tile_pixels color pixels.old) }
-    ensures count { length pixels.new ≡ 4096 }
-{
     let Some(p) = color else {
-        op.draw(on, col, row, pixels);
+        draw_ops(on, col, row, ops, pixels);
         return None;
     };
-    if let Some(after) = op.color_after(p) {
+    let (done, after) = color_after(ops, p);
+    if done >= ops.len() {
         return Some(after);
     }
-    fill_tile(p, pixels);
-    op.draw(on, col, row, pixels);
+    fill_tile(after, pixels);
+    draw_ops(on, col, row, &ops[done..], pixels);
     None
 }
 
@@ -298,16 +275,21 @@ fn copy_block(from: &[Pixel], to: &mut [Pixel])
     block.copy_from_slice(first);
 }
 
-/// The colour of a tile of this colour after operations, if it is known to be of one.
-fn color_after(ops: &[PackedOp], color: Pixel) -> Option<Pixel>
-    ensures { IfSome result (λ after. (t : OnTile) (x y : ℕ) → x < 64 → y < 64
-        → ops_at t ops.now x y color ≡ after) }
+/// After how many operations a tile of this colour is known to be of one, and that colour.
+fn color_after(ops: &[PackedOp], color: Pixel) -> (usize, Pixel)
+    ensures within { result.0 ≤ length ops.now }
+    ensures color { (t : OnTile) (x y : ℕ) → x < 64 → y < 64
+        → ops_at t (take result.0 ops.now) x y color ≡ result.1 }
 {
-    let mut color = color;
+    let (mut done, mut color) = (0, color);
     for op in ops {
-        color = op.unpacked().color_after(color)?;
+        match op.unpacked().color_after(color) {
+            Some(after) => color = after,
+            None => return (done, color),
+        }
+        done += 1;
     }
-    Some(color)
+    (done, color)
 }
 
 /// Operations on the tiles of a canvas, by their lists.
@@ -332,10 +314,13 @@ impl TilePainter for OpsPainter<'_> {
         let Some(before) = color else {
             return TileChange::Unknown;
         };
-        match color_after(ops, before) {
-            Some(after) if after == before => TileChange::Stays,
-            Some(after) => TileChange::Becomes(after),
-            None => TileChange::Unknown,
+        let (done, after) = color_after(ops, before);
+        if done < ops.len() {
+            TileChange::Unknown
+        } else if after == before {
+            TileChange::Stays
+        } else {
+            TileChange::Becomes(after)
         }
     }
 
