@@ -4,8 +4,8 @@
 //! The rule: docs/protocol.md, "The session".
 #![tactic(auto)]
 
-mod core;
 mod session;
+mod session_core;
 
-pub use crate::core::SessionCore;
 pub use session::AnySession;
+pub use session_core::SessionCore;

@@ -7,7 +7,7 @@ ghost use Rattle.dp_epochs.specs.State.{next_open};
 ghost use Rattle.dp_epochs.specs.declared.event.Query.TheVariants.{Pull};
 ghost use Rattle.dp_history.specs.Pages.{IsBounded, IsPage};
 
-use crate::core::SessionCore;
+use crate::session_core::SessionCore;
 use dp_epochs::{Answer, Event, Journal, Query, Reply, Shut};
 use dp_history::{Page, PageFrames};
 use dp_machine::Machine;

@@ -4,7 +4,7 @@ use denote.Param.Send.{IsSend, IsSync}
 use Rattle.dp_any_session.proofs.session.AnySession.TheSendSync as session
 use Rattle.dp_any_session.specs.contracts.session.AnySession as AnySession
 use Rattle.dp_any_session.specs.contracts.session.AnySessionMachine.TheImpl as machine
-use Rattle.dp_any_session.specs.declared.core.SessionCore as core
+use Rattle.dp_any_session.specs.declared.session_core.SessionCore as core
 use Rattle.dp_crew.proofs.Sending.{job_send}
 use Rattle.dp_crew.specs.contracts.jobs.Job as Job
 use Rattle.dp_epochs.specs.contracts.event.Answer as Answer
