@@ -19,7 +19,7 @@ use dp_canvas::{DeferredBoard, Workers, settle_half_full};
 use dp_io::Source;
 use dp_lines::RunEnd;
 use dp_messages::Entry;
-use dp_msg_draw::Draw;
+use dp_msg_draw::{Draw, TileContent};
 use dp_recording::RecordingReader;
 use dp_replay::act_of_entry;
 use dp_rollback::KeptAct;
@@ -30,11 +30,15 @@ use std::alloc::{AllocError, Global};
 use std::sync::ledger::Ledger;
 use std::thread::{Threads, join_mut};
 
-/// How many entries are read while those before them are drawn.
-const BATCH: u32 = 16384;
+/// How many entries are read while those before them are drawn. There are fewer if some of them
+/// carry lists of pixels or of dabs.
+const BATCH: usize = 16384;
+
+/// How many items of a list weigh as much as an entry without one.
+const ITEMS: usize = 16;
 
 /// How many acts are drawn between two looks at what waits.
-const LOOK: usize = 64;
+const LOOK: usize = 1024;
 
 /// How reading a batch of entries ended.
 #[derive(Drop)]
@@ -101,8 +105,7 @@ fn hold(alloc: Global, board: &mut ShownBoard, entry: Entry) -> Result<bool, All
     }
 }
 
-/// The same for the next entry if it is one of the first so many, of which `due` are left, or of
-/// all.
+/// The same for the next entry, if it is one of those that are left to show, or of all.
 #[inline(always)]
 fn hold_due(
     alloc: Global,
@@ -124,6 +127,24 @@ fn hold_due(
     }
 }
 
+/// How many entries of a batch an entry stands for, by the memory that it holds.
+fn weight(entry: &Entry) -> usize {
+    let items = match entry.msg.command() {
+        Some(Draw::PutImage { colors, .. }) => colors.as_slice().len(),
+        Some(Draw::DabsRound { dabs, .. } | Draw::DabsSquare { dabs, .. }) => {
+            dabs.as_slice().len()
+        }
+        Some(
+            Draw::PutTile {
+                content: TileContent::Pixels(pixels),
+                ..
+            },
+        ) => pixels.as_slice().len(),
+        _ => 0,
+    };
+    1 + items / ITEMS
+}
+
 /// Reads a batch of entries, and holds their acts.
 fn read_batch<I: Source>(alloc: Global, input: &mut I, ahead: &mut Ahead) -> Batch
     ensures read { EndsBatch (I.left input.old) (I.left input.new) (I.faults input.old)
@@ -137,12 +158,12 @@ fn read_batch<I: Source>(alloc: Global, input: &mut I, ahead: &mut Ahead) -> Bat
             Ok(None) => return Batch::Ended(RunEnd::Done),
             Err(error) => return Batch::Ended(error.run_end()),
         };
+        left = left.saturating_sub(weight(&entry));
         match hold_due(alloc, &mut ahead.board, &mut ahead.due, entry) {
             Ok(false) => {}
             Ok(true) => return Batch::More { marked: true },
             Err(AllocError) => return Batch::Ended(RunEnd::Memory),
         }
-        left -= 1;
         let is_full = left == 0;
         if is_full {
             return Batch::More { marked: false };
@@ -317,8 +338,8 @@ pub(crate) fn read_ahead<
     }
 }
 
-/// How playing ends if reading ended so. Where the acts before that weren't drawn, memory ran out,
-/// but an end before the input's stands.
+/// How playing ends if reading ended so. If the acts before that weren't drawn, memory ran out, but
+/// an end before the input's stands.
 fn end_after(end: RunEnd, drawn: bool) -> RunEnd
     ensures { EndsAfter drawn end result }
 {

@@ -10,7 +10,6 @@ entries-init g c = record {
   going = λ goes. goes;
   kept = refl;
   within = omega arith;
-  some = omega arith;
 }
 
 pub entries-preserved : goal.entries-preserved
@@ -27,7 +26,6 @@ entries-preserved g c =
       going = λ goes. gives.goes_on;
       kept = gives.kept ∙ was.kept;
       within = omega (arith, gives.further, was.within);
-      some = omega arith;
     }
 
 pub entries-smaller : goal.entries-smaller

@@ -1,4 +1,4 @@
-use Rattle.std.proofs.Common.{◌≡◌, ◌≤◌, ◌<◌, ℕ, List}
+use Rattle.std.proofs.Common.{◌≡◌, ◌≤◌, ℕ, List}
 use Rattle.std.specs.Prelude.{Option}
 use Rattle.dp_plain.specs.Board.{Board}
 use Rattle.dp_recording.specs.Recordings.{GoesOn, measure_of}
@@ -14,7 +14,6 @@ invariant-entries g l = record {
   going : GoesOn l.fn.ahead.reader → GoesOn l.ahead.reader;
   kept : g.I.Source.faults l.input ≡ g.I.Source.faults l.fn.input;
   within : measure_of l.ahead.reader ≤ measure_of l.fn.ahead.reader;
-  some : 0 < l.left;
 }
 
 abbrev pub decreases-entries : goal.decreases-entries
