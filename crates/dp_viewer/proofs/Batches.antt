@@ -20,7 +20,7 @@ use Rattle.dp_rollback.specs.Kept.{drawn_among}
 use Rattle.dp_rollback.proofs.StandLemmas.{fold-drawn}
 use Rattle.dp_trailing.specs.Trailing.{Trailing}
 use Rattle.dp_viewer.specs.declared.ahead.Ahead.{Ahead}
-use Rattle.dp_viewer.specs.Ahead.{EndsAfter, ShowsFirst, ShowsOn, board_after, on_board}
+use Rattle.dp_viewer.specs.Ahead.{EndsAfter, ShowsFirst, ShowsFirstOn, board_after, on_board}
 use Rattle.dp_viewer.specs.Reading.{AreDue, EndsReading, FaultMatchesWay, ReadsToEnd}
 use Rattle.dp_viewer.specs.Reading.{TrailsShown}
 use Rattle.dp_viewer.specs.Ways.{Way, first_of}
@@ -140,12 +140,12 @@ held-further marked m is left now board later due less reader next entry read he
 -- a batch was read, and what was read is drawn next
 pub shows-next : (at : Option ℕ) (input left now : Option (List ℕ)) (on next : Board)
     (old new : Ahead) (later : Trailing Board Draw) (marked : Bool)
-    → ((at : Option ℕ) (input : Option (List ℕ)) (on : Board) → ShowsOn at input left on old
-    → ShowsOn at input now (board_after marked on new.board) new)
+    → ((at : Option ℕ) (input : Option (List ℕ)) (on : Board) → ShowsFirstOn at input left on old
+    → ShowsFirstOn at input now (board_after marked on new.board) new)
     → ((entries : List Entry)
     → TrailsShown (on_board (board_after marked on new.board) new.board) entries
     → TrailsShown (on_board next later) entries)
-    → ShowsOn at input left on old
+    → ShowsFirstOn at input left on old
     → ShowsFirst at input now (on_board next later) new.due new.reader
 shows-next at input left now on next old new later marked read goes shows =
     shows-same at input now (on_board (board_after marked on new.board) new.board)
@@ -155,12 +155,14 @@ shows-next at input left now on next old new later marked read goes shows =
 module _ (given end : RunEnd) where
   pub told-after : (b : Bool) (way : Way) (input now : Option (List ℕ)) (on drawn : Board)
       (t later : Trailing Board Draw) → later ≡ on_board drawn t → (b ≡ true → drawn ≡ on)
-      → EndsAfter b given end → IfSome input (λ bytes. EndsReading way bytes now (on_board on t) given)
+      → EndsAfter b given end
+      → IfSome input (λ bytes. EndsReading way bytes now (on_board on t) given)
       → IfSome input (λ bytes. EndsReading way bytes now later end)
   told-after true way input now on drawn t later is same after told =
       subst (λ (b : Trailing Board Draw). IfSome input (λ bytes. EndsReading way bytes now b end))
       (sym is)
-      (subst (λ (e : RunEnd). IfSome input (λ bytes. EndsReading way bytes now (on_board drawn t) e))
+      (subst (λ (e : RunEnd).
+      IfSome input (λ bytes. EndsReading way bytes now (on_board drawn t) e))
       (sym (after.kept refl))
       (subst (λ (b : Board). IfSome input (λ bytes. EndsReading way bytes now (on_board b t) given))
       (sym (same refl)) told))
@@ -188,7 +190,8 @@ module _ (given end : RunEnd) where
           subst (λ (e : RunEnd). FaultMatchesWay way before after e)
           (sym (so.memory refl to_end)) (kept_to_end way before after given fault to_end)
       by_end (inr past) =
-          subst (λ (e : RunEnd). FaultMatchesWay way before after e) (sym (so.early refl past)) fault
+          subst (λ (e : RunEnd). FaultMatchesWay way before after e)
+          (sym (so.early refl past)) fault
 
   pub to_end-after : (b : Bool) (now : Option (List ℕ)) → EndsAfter b given end
       → (ReadsToEnd given → IsAtEnd now) → ReadsToEnd end → IsAtEnd now

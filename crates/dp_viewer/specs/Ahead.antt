@@ -34,16 +34,16 @@ ShowsFirst at input left board due reader =
     × TrailsShown board (first_of at all) × AreDue at all due)
 
 -- the same where another board trails
-abbrev pub ShowsOn : Option ℕ → Option (List ℕ) → Option (List ℕ) → Board → Ahead → Type 0
-ShowsOn at input left on a = ShowsFirst at input left (on_board on a.board) a.due a.reader
+abbrev pub ShowsFirstOn : Option ℕ → Option (List ℕ) → Option (List ℕ) → Board → Ahead → Type 0
+ShowsFirstOn at input left on a = ShowsFirst at input left (on_board on a.board) a.due a.reader
 
 -- A batch of entries was read, the last one a mark of a reset or not. Before it `left` was left of
 -- the input, which had failed `before` times; by `now` and `after` it tells how it is then.
 pub record ReadsBatch (left now : Option (List ℕ)) (before after : ℕ) (old new : Ahead)
     (marked : Bool) : Type 0 where
   pub shown : (at : Option ℕ) (input : Option (List ℕ)) (on : Board)
-      → ShowsOn at input left on old
-      → ShowsOn at input now (board_after marked on new.board) new
+      → ShowsFirstOn at input left on old
+      → ShowsFirstOn at input now (board_after marked on new.board) new
   pub further : measure_of new.reader < measure_of old.reader
   pub goes_on : GoesOn new.reader
   pub kept : after ≡ before
@@ -52,7 +52,7 @@ pub record ReadsBatch (left now : Option (List ℕ)) (before after : ℕ) (old n
 pub record EndsInBatch (left now : Option (List ℕ)) (before after : ℕ) (old new : Ahead)
     (end : RunEnd) : Type 0 where
   pub told : (at : Option ℕ) (input : Option (List ℕ)) (on : Board)
-      → ShowsOn at input left on old
+      → ShowsFirstOn at input left on old
       → IfSome input (λ bytes. EndsReading (play_way at) bytes now (on_board on new.board) end)
   pub fault : (at : Option ℕ) → GoesOn old.reader → FaultMatchesWay (play_way at) before after end
   pub to_end : GoesOn old.reader → ReadsToEnd end → IsAtEnd now
@@ -64,8 +64,8 @@ EndsBatch left now before after old new (More marked) =
 EndsBatch left now before after old new (Ended end) =
     EndsInBatch left now before after old new end
 
--- How playing ends if reading ended so, and the acts before that were drawn or not: if they weren't,
--- memory ran out, but an end before the input's stands.
+-- How playing ends if reading ended so, and the acts before that were drawn or not. If they
+-- weren't, memory ran out, but an end before the input's stands.
 pub record EndsAfter (drawn : Bool) (given end : RunEnd) : Type 0 where
   pub kept : drawn ≡ true → end ≡ given
   pub memory : drawn ≡ false → ReadsToEnd given → end ≡ Memory

@@ -63,7 +63,8 @@ returns-in-Ended-clause-fault g c =
     let at = c.args.shown.due in
     let reads = c.in-Ended.ensures.read in
     let was = c.batches.invariant in
-    fault-after c.in-Ended.end c.put_back.result.end c.read_beside.new.behind.drawn (play_way at) _ _
+    fault-after c.in-Ended.end c.put_back.result.end c.read_beside.new.behind.drawn
+    (play_way at) _ _
     (ended _ _ _ _ c.end_after-end.ensures c.put_back.ensures.end)
     (rw was.kept at (reads.fault at was.going))
 
@@ -84,7 +85,8 @@ pub returns-then-is_err-clause-fault : goal.returns-then-is_err-clause-fault
 returns-then-is_err-clause-fault g c =
     subst (λ (e : RunEnd). FaultMatchesWay (play_way c.args.shown.due)
     (g.I.Source.faults c.args.input.now) (g.I.Source.faults c.read_beside.new.input) e)
-    (sym c.put_back-then-is_err.ensures.end) (c.in-More.ensures.read.kept ∙ c.batches.invariant.kept)
+    (sym c.put_back-then-is_err.ensures.end)
+    (c.in-More.ensures.read.kept ∙ c.batches.invariant.kept)
 
 pub returns-then-is_err-clause-to_end : goal.returns-then-is_err-clause-to_end
 returns-then-is_err-clause-to_end g c =

@@ -22,8 +22,8 @@ entries-preserved g c =
           shows-further c.args.shown.now.due (g.I.Source.left c.args.input.now)
           (g.I.Source.left c.entries.input) (g.I.Source.left c.next.new.input)
           c.entries.shown.board c.show_due.new.board c.entries.shown.due c.show_due.new.due
-          c.in-Ok-Some.entry c.entries.reader c.next.new.self gives.read shown c.show_due.ensures.left
-          c.entries.invariant.told;
+          c.in-Ok-Some.entry c.entries.reader c.next.new.self gives.read shown
+          c.show_due.ensures.left c.entries.invariant.told;
       going = gives.goes_on;
       kept = gives.kept ∙ c.entries.invariant.kept;
     }

@@ -9,4 +9,4 @@ pub returns : goal.returns
 returns g c = λ drew.
     on-ok c.draw_settling-drew.result c.is_ok-self.result c.is_ok-self.ensures.value drew
     c.draw_settling-drew.ensures
-    ∙ ap (λ acts. fold draw c.args.self.now.board (drawn_among acts)) c.as_slice-acts.ensures.value
+    ∙ ap (λ acts. fold draw c.args.self.now.board (drawn_among acts)) (c.deref.ensures.value)
