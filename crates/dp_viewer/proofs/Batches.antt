@@ -1,9 +1,9 @@
 -- What is read of a recording ahead of what is drawn of it.
-use Rattle.std.proofs.Common.{◌≡◌, ◌⊎◌, ℕ, ◌+◌, ◌-◌, ◌≤◌, Bool, true, false, List, [], ◌∷◌, ◌++◌, take, drop}
+use Rattle.std.proofs.Common.{◌≡◌, ◌⊎◌, ℕ, ◌-◌, ◌≤◌, Bool, true, false, List, [], ◌∷◌, ◌++◌, take, drop}
 use Rattle.std.proofs.Common.{refl, sym, ap, ◌∙◌, subst, inl, inr, arith}
 use Rattle.std.proofs.lemmas.List.{take-append-drop, drop-drop}
 use Rattle.std.specs.Io.KnownBytes.{IsAtEnd}
-use Rattle.std.specs.Prelude.{Option, Some, None, IfSome, Result, Ok, Err, OnOk, is_ok}
+use Rattle.std.specs.Prelude.{Option, Some, None, IfSome}
 use Rattle.std.specs.List.{fold}
 use Rattle.dp_lines.specs.declared.run_end.RunEnd.{RunEnd}
 use Rattle.dp_lines.specs.declared.run_end.RunEnd.TheVariants.{Done, BadLine, ReadFault, WriteFault}
@@ -201,8 +201,3 @@ module _ (given end : RunEnd) where
       by_end : ReadsToEnd given ⊎ (ReadsToEnd given → ⊥) → IsAtEnd now
       by_end (inl all) = absurd (subst ReadsToEnd (so.memory refl all) to_end)
       by_end (inr past) = absurd (past (subst ReadsToEnd (so.early refl past) to_end))
-
--- what holds of an `Ok`, if the result is one
-pub on-ok : {A E P : Type 0} (r : Result A E) (b : Bool) → b ≡ is_ok r → b ≡ true → OnOk r P → P
-on-ok (Ok a) b is good on = on
-on-ok (Err e) b is good on = let f : false ≡ true = sym is ∙ good in absurd cc

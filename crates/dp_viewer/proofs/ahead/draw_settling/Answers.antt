@@ -1,4 +1,4 @@
-use Rattle.std.proofs.Common.{◌∙◌, ◌+◌, ap, arith, drop, refl, sym}
+use Rattle.std.proofs.Common.{◌∙◌, ◌+◌, ap, arith, refl, sym}
 use Rattle.std.proofs.lemmas.List.{drop_all}
 use Rattle.std.specs.List.{fold}
 use Rattle.dp_plain.specs.Commands.{draw}

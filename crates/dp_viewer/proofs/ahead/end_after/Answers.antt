@@ -1,4 +1,4 @@
-use Rattle.std.proofs.Common.{◌∙◌, refl, sym}
+use Rattle.std.proofs.Common.{refl}
 use Rattle.dp_viewer.proofs.ahead.end_after.Goals as goal
 
 pub returns-then-drawn : goal.returns-then-drawn
