@@ -249,8 +249,7 @@ impl<B: Board> TrailingBoard<B> {
     }
 
     /// Gives the acts before the oldest point in reach, which no act can move any more, and holds
-    /// them no longer. As many again may come before memory is taken for them. A board that trailed
-    /// the history trails it once the acts are drawn on it.
+    /// them no longer. A board that trailed the history trails it once they are drawn on it.
     ///
     /// # Errors
     ///
@@ -264,9 +263,7 @@ impl<B: Board> TrailingBoard<B> {
             })) }
     {
         let first = self.table.oldest();
-        let settled = let_go(&mut self.base, &mut self.kept, &mut self.limit, first)?;
-        self.kept.reserve(settled.len())?;
-        Ok(settled)
+        let_go(&mut self.base, &mut self.kept, &mut self.limit, first)
     }
 
     /// The board after all acts.

@@ -27,13 +27,12 @@ use dp_steps::Steps;
 use dp_trailing::draw_kept;
 use dp_wire::Gate;
 use std::alloc::{AllocError, Global};
-use std::mem::replace;
 use std::sync::ledger::Ledger;
 use std::thread::{Threads, join_mut};
 
 /// How many entries are read while those before them are drawn. There are fewer if some of them
 /// carry lists of pixels or of dabs.
-const BATCH: usize = 32768;
+const BATCH: usize = 16384;
 
 /// How many items of a list weigh as much as an entry without one.
 const ITEMS: usize = 16;
@@ -193,7 +192,7 @@ fn draw_settling<R: Threads + Sync, G: Gate, D: Ledger, T: Ledger>(
 }
 
 impl Behind {
-    /// Draws the acts, unless memory runs out, and lets them go.
+    /// Draws the acts, unless memory runs out.
     fn draw<R: Threads + Sync, G: Gate, D: Ledger, T: Ledger>(
         &mut self,
         crew: &Crew<'_, R, G>,
@@ -203,8 +202,8 @@ impl Behind {
         ensures { self.new.drawn ≡ true → self.new.board
             ≡ fold draw self.old.board (drawn_among self.old.ready.items) }
     {
-        let acts = replace(&mut self.ready, Vec::new(crew.alloc));
-        let drew = draw_settling(crew, &mut self.board, &acts, draws, tiles);
+        let acts = self.ready.as_slice();
+        let drew = draw_settling(crew, &mut self.board, acts, draws, tiles);
         self.drawn = drew.is_ok();
     }
 
