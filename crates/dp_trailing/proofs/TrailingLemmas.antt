@@ -2,7 +2,6 @@
 use Rattle.std.proofs.Common.{◌≡◌, ℕ, ◌+◌, ◌-◌, ◌<◌, ◌≤◌, true, List, [], ◌∷◌, ◌++◌, length}
 use Rattle.std.proofs.Common.{take, drop, map, Option, Some, None, refl, ap, sym, ◌∙◌, arith}
 use Rattle.std.proofs.Common.{length-append, get_or, subst}
-use Rattle.std.specs.Prelude.{Result, Ok, Err, IfOk, OnOk}
 use Rattle.std.specs.List.{fold}
 use Rattle.std.specs.Option.{ForSome, option_map}
 use Rattle.std.proofs.lemmas.List.{take-append-drop, drop-drop, drop-map, drop-take, length-map}
@@ -132,21 +131,19 @@ Trails-drawn_up_to draw t count blank depth acts tr =
     }
 
 -- the first acts that are held are given away: whatever board trailed trails with them
-pub given-apart : {X E B Op : Type 0} → (r : Result X E) (items : X → List (KeptAct Op))
-    (draw : B → Op → B) (was t : Trailing B Op) (first base : ℕ) (kept : List (KeptAct Op))
-    → t ≡ was → IfOk r (λ given. items given ≡ take (first - t.base) t.kept)
-    → OnOk r (base ≡ t.base + (first - t.base)) → OnOk r (kept ≡ drop (first - t.base) t.kept)
-    → IfOk r (λ given. (board blank : B) (depth : ℕ) (acts : List (UserAct Op))
+pub given-apart : {B Op : Type 0} → (draw : B → Op → B) (was t : Trailing B Op) (first base : ℕ)
+    (given kept : List (KeptAct Op)) → t ≡ was → given ≡ take (first - t.base) t.kept
+    → base ≡ t.base + (first - t.base) → kept ≡ drop (first - t.base) t.kept
+    → (board blank : B) (depth : ℕ) (acts : List (UserAct Op))
     → Trails draw blank depth acts (record was { board = board })
     → Trails draw blank depth acts (record {
-      board = fold draw board (drawn_among (items given));
+      board = fold draw board (drawn_among given);
       table = t.table;
       base = base;
       kept = kept;
-    }))
-given-apart (Err e) items draw was t first base kept same given moved left = tt
-given-apart {X} {E} {B} {Op} (Ok x) items draw was t first base kept same given moved left =
-    λ board blank depth acts trails.
+    })
+given-apart {B} {Op} draw was t first base given kept same gives moved left
+    board blank depth acts trails =
     let n : ℕ = first - t.base in
     let all : Trails draw blank depth acts (drawn_up_to draw n (record t { board = board })) =
     Trails-drawn_up_to draw (record t { board = board }) n blank depth acts
@@ -155,7 +152,7 @@ given-apart {X} {E} {B} {Op} (Ok x) items draw was t first base kept same given 
     record {
       table = all.table;
       kept = left ∙ all.kept ∙ ap (λ b. drop b (kept_of depth acts)) (sym moved);
-      board = ap (λ xs. fold draw board (drawn_among xs)) given ∙ all.board
+      board = ap (λ xs. fold draw board (drawn_among xs)) gives ∙ all.board
           ∙ ap (λ b. fold draw blank (drawn_first depth acts b)) (sym moved);
     }
 

@@ -103,6 +103,24 @@ fn let_go<Op: Drop>(
     Ok(given)
 }
 
+/// Holds acts in other memory from now on.
+///
+/// # Errors
+///
+/// They are held where they were.
+fn hold_in<Op: Drop>(
+    mut room: Vec<KeptAct<Op>>,
+    kept: &mut Vec<KeptAct<Op>>,
+) -> Result<(), AllocError>
+    requires { room.items ≡ [] }
+    ensures items { kept.new.items ≡ kept.old.items }
+    ensures len { vec_len kept.new ≡ vec_len kept.old }
+{
+    room.append(kept)?;
+    *kept = room;
+    Ok(())
+}
+
 /// Draws the commands among acts that are to be drawn.
 ///
 /// # Errors
@@ -249,12 +267,17 @@ impl<B: Board> TrailingBoard<B> {
     }
 
     /// Gives the acts before the oldest point in reach, which no act can move any more, and holds
-    /// them no longer. A board that trailed the history trails it once they are drawn on it.
+    /// them no longer. The acts after them are held in `room` from then on. A board that trailed
+    /// the history trails it once the acts that are given are drawn on it.
     ///
     /// # Errors
     ///
     /// If memory runs out. No board may trail the history then.
-    pub fn give_settled(&mut self) -> Result<Vec<KeptAct<B::Op>>, AllocError>
+    pub fn give_settled(
+        &mut self,
+        room: Vec<KeptAct<B::Op>>,
+    ) -> Result<Vec<KeptAct<B::Op>>, AllocError>
+        requires { room.items ≡ [] }
         ensures { IfOk result (λ given. (board blank : B) (depth : ℕ)
             (acts : List (UserActOf B.Op))
             → Trails B.drawn blank depth acts (record self.old { board = board })
@@ -263,7 +286,9 @@ impl<B: Board> TrailingBoard<B> {
             })) }
     {
         let first = self.table.oldest();
-        let_go(&mut self.base, &mut self.kept, &mut self.limit, first)
+        let settled = let_go(&mut self.base, &mut self.kept, &mut self.limit, first)?;
+        hold_in(room, &mut self.kept)?;
+        Ok(settled)
     }
 
     /// The board after all acts.

@@ -27,6 +27,7 @@ use dp_steps::Steps;
 use dp_trailing::draw_kept;
 use dp_wire::Gate;
 use std::alloc::{AllocError, Global};
+use std::mem::replace;
 use std::sync::ledger::Ledger;
 use std::thread::{Threads, join_mut};
 
@@ -192,7 +193,7 @@ fn draw_settling<R: Threads + Sync, G: Gate, D: Ledger, T: Ledger>(
 }
 
 impl Behind {
-    /// Draws the acts, unless memory runs out.
+    /// Draws the acts, unless memory runs out, and lets them go.
     fn draw<R: Threads + Sync, G: Gate, D: Ledger, T: Ledger>(
         &mut self,
         crew: &Crew<'_, R, G>,
@@ -205,6 +206,7 @@ impl Behind {
         let acts = self.ready.as_slice();
         let drew = draw_settling(crew, &mut self.board, acts, draws, tiles);
         self.drawn = drew.is_ok();
+        self.ready.clear();
     }
 
     /// Has what was read last be what is drawn next, if the acts before it were drawn.
@@ -246,7 +248,9 @@ impl Behind {
             let ready = Vec::new(alloc);
             self.ready = ready;
         } else {
-            let ready = board.give_settled()?;
+            let mut room = replace(&mut self.ready, Vec::new(alloc));
+            room.clear();
+            let ready = board.give_settled(room)?;
             self.ready = ready;
         }
         Ok(())
