@@ -159,14 +159,7 @@ fn run_command<
 }
 
 /// Runs a command on the input and the output alone.
-fn run_local<
-    R: Threads + Sync,
-    I: Source,
-    O: Sink,
-    G: Gate,
-    D: Ledger + Send,
-    T: Ledger + Send,
->(
+fn run_local<R: Threads + Sync, I: Source, O: Sink, G: Gate, D: Ledger + Send, T: Ledger + Send>(
     host: Host<'_, R, G>,
     command: &LocalCommand,
     input: &mut I,
