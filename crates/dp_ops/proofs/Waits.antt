@@ -10,8 +10,9 @@ use Rattle.dp_tile.specs.declared.area.CellArea.{CellArea}
 use Rattle.dp_tile.specs.Areas.{is_in_cells}
 use Rattle.dp_ops.specs.declared.lists.Finish.{Finish}
 use Rattle.dp_ops.specs.declared.lists.Finish.TheVariants as ways
-use Rattle.dp_ops.specs.Lists.{AllCount, HaveSameLists, IsChangedOn, IsInside, Lists}
-use Rattle.dp_ops.specs.Lists.{IsFinished, Waiting, finished, list_at, no_list, row_to}
+use Rattle.dp_ops.specs.Lists.{AllCount, HasLists, HaveSameLists, IsChangedOn, IsFinished}
+use Rattle.dp_ops.specs.Lists.{IsInside, Lists, Waiting, cell_place, finished, list_at, no_list}
+use Rattle.dp_ops.specs.Lists.{row_to}
 
 -- ---- cells of an area
 
@@ -43,7 +44,38 @@ inside_by area col row is =
 
 abbrev at_first : Lists → ℕ → ℕ → List Waiting → Waiting
 at_first l col row lists =
-    cond (leb l.first row) (get_or lists ((row - l.first) * 64 + col) no_list) no_list
+    cond (leb l.first row) (get_or lists (cell_place col (row - l.first)) no_list) no_list
+
+-- ---- where lists stand
+
+-- two tiles have two places
+pub place_apart : (col down other lower : ℕ) → col < 64 → other < 64
+    → cell_place col down ≡ cell_place other lower → (col ≡ other) × (down ≡ lower)
+place_apart col down other lower few few_other same = (omega arith, omega arith)
+
+-- the place of a tile above and left of another isn't after it
+pub place_before : (col down other lower : ℕ) → other < 64 → col ≤ other → down ≤ lower
+    → cell_place col down ≤ cell_place other lower
+place_before col down other lower few across downward = omega arith
+
+-- if the last list of some columns and rows is there then all of them are
+pub has_all : (right bottom : ℕ) (l : Lists) → right ≤ 64
+    → cell_place (right - 1) (bottom - 1 - l.first) < length l.lists → HasLists right bottom l
+has_all right bottom l few is col row in_cols from in_rows =
+    omega (
+      arith,
+      place_before col (row - l.first) (right - 1) (bottom - 1 - l.first) (omega (arith, few,
+      in_cols)) (omega (arith, in_cols)) (omega (arith, in_rows)),
+      is,
+    )
+
+-- fewer columns and rows of as many lists
+pub has_fewer : (right bottom few low : ℕ) (old new : Lists) → new.first ≡ old.first
+    → length new.lists ≡ length old.lists → few ≤ right → low ≤ bottom
+    → HasLists right bottom old → HasLists few low new
+has_fewer right bottom few low old new first len across down has col row in_cols from in_rows =
+    rw (first, len) (has col row (omega (arith, in_cols, across)) (omega (arith, from, first))
+    (omega (arith, in_rows, down)))
 
 -- ---- areas that change list by list
 
@@ -186,7 +218,7 @@ pub pushed_same : (l : Lists) (new : List Waiting) → new ≡ l.lists ++ no_lis
 pushed_same l new is col row few =
     ap (λ (lists : List Waiting). at_first l col row lists) is
     ∙ ap (λ (w : Waiting). cond (leb l.first row) w no_list)
-    (get_or_push l.lists no_list ((row - l.first) * 64 + col))
+    (get_or_push l.lists no_list (cell_place col (row - l.first)))
 
 -- a list of what counts alone
 abbrev pub counted : Waiting → Waiting
