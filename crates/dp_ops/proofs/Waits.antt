@@ -1,5 +1,5 @@
 -- Lists of operations, by the columns and rows of their tiles.
-use Rattle.std.proofs.Common.{◌≡◌, ℕ, zero, suc, ◌+◌, ◌-◌, ◌*◌, ◌<◌, ◌≤◌, List, [], ◌∷◌, ◌++◌}
+use Rattle.std.proofs.Common.{◌≡◌, ℕ, zero, suc, ◌+◌, ◌-◌, ◌<◌, ◌≤◌, List, [], ◌∷◌, ◌++◌}
 use Rattle.std.proofs.Common.{length, get_or}
 use Rattle.std.proofs.Common.{refl, sym, ◌∙◌, ap, arith, ⊎_elim, ◌&&◌, leb, ltb, cond}
 use Rattle.std.proofs.Common.{true, length-append}
@@ -46,28 +46,7 @@ abbrev at_first : Lists → ℕ → ℕ → List Waiting → Waiting
 at_first l col row lists =
     cond (leb l.first row) (get_or lists (cell_place col (row - l.first)) no_list) no_list
 
--- ---- where lists stand
-
--- two tiles have two places
-pub place_apart : (col down other lower : ℕ) → col < 64 → other < 64
-    → cell_place col down ≡ cell_place other lower → (col ≡ other) × (down ≡ lower)
-place_apart col down other lower few few_other same = (omega arith, omega arith)
-
--- the place of a tile above and left of another isn't after it
-pub place_before : (col down other lower : ℕ) → other < 64 → col ≤ other → down ≤ lower
-    → cell_place col down ≤ cell_place other lower
-place_before col down other lower few across downward = omega arith
-
--- if the last list of some columns and rows is there then all of them are
-pub has_all : (right bottom : ℕ) (l : Lists) → right ≤ 64
-    → cell_place (right - 1) (bottom - 1 - l.first) < length l.lists → HasLists right bottom l
-has_all right bottom l few is col row in_cols from in_rows =
-    omega (
-      arith,
-      place_before col (row - l.first) (right - 1) (bottom - 1 - l.first) (omega (arith, few,
-      in_cols)) (omega (arith, in_cols)) (omega (arith, in_rows)),
-      is,
-    )
+-- ---- lists that are there
 
 -- fewer columns and rows of as many lists
 pub has_fewer : (right bottom few low : ℕ) (old new : Lists) → new.first ≡ old.first
