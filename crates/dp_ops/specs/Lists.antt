@@ -26,10 +26,10 @@ pub record Lists : Type 0 where
   pub first : ℕ
   pub lists : List Waiting
 
--- Where the list of a tile stands, by its column and how many rows it is down: in blocks of 8 by 8
--- tiles, 8 blocks for each 8 rows.
+-- Where the list of a tile stands, by its column and how many rows it is down: in strips of 8 rows
+-- of 64 tiles, and in a strip column by column.
 abbrev pub cell_place : ℕ → ℕ → ℕ
-cell_place col down = ((down / 8) * 8 + col / 8) * 64 + (down % 8) * 8 + col % 8
+cell_place col down = (down / 8) * 512 + col * 8 + down % 8
 
 -- the list of the tile at a column and a row
 abbrev pub list_at : Lists → ℕ → ℕ → Waiting

@@ -114,8 +114,8 @@ fn is_one_cell(area: CellArea) -> bool
     area.right - area.left == 1 && area.bottom - area.top == 1
 }
 
-/// Lists of operations of the tiles of a grid, from a row of tiles on, in blocks of 8 by 8 tiles.
-/// The last ones may not be there yet.
+/// Lists of operations of the tiles of a grid, from a row of tiles on, in strips of 8
+/// rows. The last ones may not be there yet.
 #[derive(Drop)]
 pub struct TileLists {
     first: u32,
@@ -155,20 +155,19 @@ impl TileLists {
         self.lists.is_empty()
     }
 
-    /// Where the list of a tile stands: lists are in blocks of 8 by 8 tiles.
+    /// Where the list of a tile stands: in strips of 8 rows, and there column by column.
     #[inline(always)]
     fn index(&self, col: u32, row: u32) -> usize
         requires col { col < 64 }
         requires first { self.now.first ≤ row }
         ensures { result ≡ cell_place col (row - self.now.first) }
     {
-        let down = row - self.first;
-        let block = (down / 8 * 8 + col / 8) as usize;
-        block * 64 + (down % 8 * 8 + col % 8) as usize
+        let down = (row - self.first) as usize;
+        (down / 8 * 64 + col as usize) * 8 + down % 8
     }
 
     /// Makes the lists of the tiles in the columns before one and the rows before one, if they
-    /// aren't there yet.
+    /// aren't there yet. Those of the whole last column of a strip are made.
     #[inline(always)]
     pub(crate) fn grow(&mut self, alloc: Global, right: u32, bottom: u32) -> Result<(), AllocError>
         requires cols { right ≤ 64 }
@@ -178,11 +177,8 @@ impl TileLists {
         ensures same { HaveSameLists self.old self.new }
         ensures room { OnOk result (HasLists right bottom self.new) }
     {
-        if right == 0 || bottom == self.first {
-            return Ok(());
-        }
-        let last = self.index(right - 1, bottom - 1);
-        for _made in self.lists.len()..last + 1 {
+        let strips = (bottom - self.first).saturating_sub(1) / 8;
+        for _made in self.lists.len()..(strips * 64 + right) as usize * 8 {
             self.lists.push(OpList::new(alloc))?;
         }
         Ok(())
