@@ -82,8 +82,8 @@ pub fn drawpile<
     W: Wire + Send,
     K: Keeper + Send,
     G: Gate,
-    D: Ledger,
-    T: Ledger,
+    D: Ledger + Send,
+    T: Ledger + Send,
 >(
     rt: &R,
     alloc: Global,

@@ -132,8 +132,8 @@ fn counted<
     W: Wire + Send,
     K: Keeper + Send,
     G: Gate,
-    D: Ledger,
-    T: Ledger,
+    D: Ledger + Send,
+    T: Ledger + Send,
 >(
     host: Host<'_, R, G>,
     words: &[String],

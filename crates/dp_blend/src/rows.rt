@@ -132,7 +132,7 @@ fn blend_by<K: Kernel>(src: Pixel, mask: &[u16], row: &mut [Pixel])
 }
 
 /// `rows_fill` with a source and its mode. If there are few columns, first 16 of them are filled in
-/// all rows, then 8, 4, 2 and 1. The compiler knows these numbers, and no row has a loop of its own.
+/// all rows, then 8, 4, 2 and 1. The compiler knows these numbers, so no row has a loop of its own.
 fn rows_by<F: Fill>(fill: F, left: usize, right: usize, stride: usize, rows: &mut [Pixel])
     requires some { 0 < stride }
     requires order { left ≤ right }

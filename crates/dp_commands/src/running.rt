@@ -73,8 +73,8 @@ pub fn run_words<
     W: Wire + Send,
     K: Keeper + Send,
     G: Gate,
-    D: Ledger,
-    T: Ledger,
+    D: Ledger + Send,
+    T: Ledger + Send,
 >(
     host: Host<'_, R, G>,
     words: &[String],
@@ -111,8 +111,8 @@ fn run_command<
     W: Wire + Send,
     K: Keeper + Send,
     G: Gate,
-    D: Ledger,
-    T: Ledger,
+    D: Ledger + Send,
+    T: Ledger + Send,
 >(
     host: Host<'_, R, G>,
     command: &CommandLine,
@@ -159,7 +159,14 @@ fn run_command<
 }
 
 /// Runs a command on the input and the output alone.
-fn run_local<R: Threads + Sync, I: Source, O: Sink, G: Gate, D: Ledger, T: Ledger>(
+fn run_local<
+    R: Threads + Sync,
+    I: Source,
+    O: Sink,
+    G: Gate,
+    D: Ledger + Send,
+    T: Ledger + Send,
+>(
     host: Host<'_, R, G>,
     command: &LocalCommand,
     input: &mut I,

@@ -2,7 +2,7 @@
 use Rattle.std.proofs.Common.{◌≡◌, ℕ, ◌+◌, ◌-◌, ◌*◌, ◌/◌, ◌%◌, ◌<◌, ◌≤◌, List, [], ◌∷◌, ◌++◌}
 use Rattle.std.proofs.Common.{length, get_or, take, drop, cond, true, false, ◌&&◌, leb, ltb}
 use Rattle.std.proofs.Common.{refl, sym, ◌∙◌, ap, arith, ◌⊎◌, ⊎_elim, replicate, min}
-use Rattle.std.specs.Prelude.{pos, ◌+ℤ◌, ◌-ℤ◌, Option, Some, None}
+use Rattle.std.specs.Prelude.{pos, ◌+ℤ◌, ◌-ℤ◌}
 use Rattle.std.specs.Prelude.{Bool, ◌==◌}
 use Rattle.std.proofs.lemmas.Int.{ints}
 use Rattle.std.proofs.lemmas.Bool.{cases_lt, cases_Bool, cond-false, cond-true, false≢true}
@@ -27,7 +27,7 @@ use Rattle.dp_pixels.specs.Commands.{dab_blended}
 use Rattle.dp_pixels.specs.Rectangles.{canvas_rect, is_in}
 use Rattle.dp_pixels.specs.Regions.{IsPainted, on_canvas}
 use Rattle.dp_pixels.proofs.Rectangles.{is_in_by}
-use Rattle.dp_tile.specs.Tiles.{tile_of, tile_pixels}
+use Rattle.dp_tile.specs.Tiles.{tile_of}
 use Rattle.dp_tile.specs.Areas.{with_part}
 use Rattle.dp_tile.proofs.Areas.{get_or-after, get_or-before, get_or-inside, length-with_part}
 use Rattle.dp_tile.proofs.Tiles.{length-tile_of, pixel-tile_of}
@@ -106,12 +106,6 @@ module _ (t : OnTile) (ops : List TileOp) (k : ℕ) (op : TileOp) (inside : k < 
   tile_next start before new first then =
       tile_more t (take k ops) op start before new first then
       ∙ ap (λ (l : List TileOp). tile_after t l start) take_op
-
--- a tile has 4096 pixels, given by a colour or not
-pub length-tile_pixels : (color : Option Channels) (pixels : List Channels)
-    → length pixels ≡ 4096 → length (tile_pixels color pixels) ≡ 4096
-length-tile_pixels (Some p) pixels count = length-tile_of p
-length-tile_pixels None pixels count = count
 
 -- a tile of a colour on which nothing waits
 pub shows_none : (t : OnTile) (ops : List TileOp) (color : Channels) (cell : List Channels)

@@ -1,7 +1,7 @@
 -- What trails a history goes on to trail it.
 use Rattle.std.proofs.Common.{◌≡◌, ℕ, ◌+◌, ◌-◌, ◌<◌, ◌≤◌, true, List, [], ◌∷◌, ◌++◌, length}
 use Rattle.std.proofs.Common.{take, drop, map, Option, Some, None, refl, ap, sym, ◌∙◌, arith}
-use Rattle.std.proofs.Common.{length-append, get_or}
+use Rattle.std.proofs.Common.{length-append, get_or, subst}
 use Rattle.std.specs.List.{fold}
 use Rattle.std.specs.Option.{ForSome, option_map}
 use Rattle.std.proofs.lemmas.List.{take-append-drop, drop-drop, drop-map, drop-take, length-map}
@@ -17,6 +17,7 @@ use Rattle.dp_rollback.specs.declared.kept.Mark.{Mark}
 use Rattle.dp_rollback.specs.Kept.{kept_of, drawn_command, drawn_among, marked}
 use Rattle.dp_rollback.specs.Kept.{commands_among}
 use Rattle.dp_rollback.specs.Laws.{Laws}
+use Rattle.dp_rollback.specs.Rollback.{drawn_first}
 use Rattle.dp_rollback.specs.Moves.{mark_by, mark_in, kept_in}
 use Rattle.dp_trailing.specs.Trailing.{Trailing, Trails, TrailsReach, IsHeldNext, marked_later}
 use Rattle.dp_trailing.specs.Trailing.{with_act, drawn_up_to}
@@ -103,6 +104,17 @@ Trails-with_act laws draw t a next blank depth acts tr =
     trails-next laws draw blank depth acts a t (moved_in t.table a) next.sender next.known tr
     next.order (sym (laws.moved depth acts a t.table next.known tr.table)) next.reach next.before
 
+-- whatever the board, the act comes next
+pub held-apart : {B Op : Type 0} → (t : Trailing B Op) (a : UserAct Op) (board : B)
+    → IsHeldNext t a → IsHeldNext (record t { board = board }) a
+held-apart t a board next = record {
+  sender = next.sender;
+  known = next.known;
+  order = next.order;
+  reach = next.reach;
+  before = next.before;
+}
+
 -- the first acts that are held may be drawn and let go
 pub Trails-drawn_up_to : {B Op : Type 0} → (draw : B → Op → B) (t : Trailing B Op) (count : ℕ)
     → (blank : B) (depth : ℕ) (acts : List (UserAct Op)) → Trails draw blank depth acts t
@@ -116,6 +128,32 @@ Trails-drawn_up_to draw t count blank depth acts tr =
           ∙ ap (λ b. fold draw b (drawn_among (take count (drop t.base all)))) tr.board
           ∙ sym (fold-drawn draw blank (take t.base all) (take count (drop t.base all)))
           ∙ ap (λ kept. fold draw blank (drawn_among kept)) (take-more t.base count all);
+    }
+
+-- the first acts that are held are given away: whatever board trailed trails with them
+pub given-apart : {B Op : Type 0} → (draw : B → Op → B) (was t : Trailing B Op) (first base : ℕ)
+    (given kept : List (KeptAct Op)) → t ≡ was → given ≡ take (first - t.base) t.kept
+    → base ≡ t.base + (first - t.base) → kept ≡ drop (first - t.base) t.kept
+    → (board blank : B) (depth : ℕ) (acts : List (UserAct Op))
+    → Trails draw blank depth acts (record was { board = board })
+    → Trails draw blank depth acts (record {
+      board = fold draw board (drawn_among given);
+      table = t.table;
+      base = base;
+      kept = kept;
+    })
+given-apart {B} {Op} draw was t first base given kept same gives moved left
+    board blank depth acts trails =
+    let n : ℕ = first - t.base in
+    let all : Trails draw blank depth acts (drawn_up_to draw n (record t { board = board })) =
+    Trails-drawn_up_to draw (record t { board = board }) n blank depth acts
+    (subst (λ (s : Trailing B Op). Trails draw blank depth acts (record s { board = board }))
+    (sym same) trails) in
+    record {
+      table = all.table;
+      kept = left ∙ all.kept ∙ ap (λ b. drop b (kept_of depth acts)) (sym moved);
+      board = ap (λ xs. fold draw board (drawn_among xs)) gives ∙ all.board
+          ∙ ap (λ b. fold draw blank (drawn_first depth acts b)) (sym moved);
     }
 
 -- with all acts that are held it is the replay

@@ -6,4 +6,4 @@
 
 mod trailing;
 
-pub use trailing::TrailingBoard;
+pub use trailing::{TrailingBoard, draw_kept};

@@ -1,6 +1,7 @@
 //! A board that trails its history.
 
-ghost use Rattle.std.specs.Prelude.{◌≡◌, ℕ, ◌+◌, ◌<◌, ◌≤◌, List, [], ◌∷◌, ◌++◌, length, IfOk, OnOk};
+ghost use Rattle.std.specs.Prelude.{◌≡◌, ℕ, ◌+◌, ◌-◌, ◌<◌, ◌≤◌, List, [], ◌∷◌, ◌++◌, length};
+ghost use Rattle.std.specs.Prelude.{IfOk, OnOk, take, drop};
 ghost use Rattle.std.specs.List.{fold};
 ghost use Rattle.std.specs.Option.{ForSome};
 ghost use Rattle.std.specs.Vec.{vec_len, vec_capacity};
@@ -71,12 +72,61 @@ fn add_later<Op: Drop>(
     kept.push_reserved(act);
 }
 
+/// Gives the acts before the position `first`, where they are held from `base` on, and lets them
+/// go. After that as many acts again may come as are left, and some more, before `limit` are held:
+/// so each is moved in memory but a few times.
+///
+/// # Errors
+///
+/// If memory runs out. The acts may be lost then.
+fn let_go<Op: Drop>(
+    base: &mut usize,
+    kept: &mut Vec<KeptAct<Op>>,
+    limit: &mut usize,
+    first: usize,
+) -> Result<Vec<KeptAct<Op>>, AllocError>
+    requires later { base.old ≤ first }
+    requires within { first ≤ base.old + vec_len kept.old }
+    ensures given { IfOk result (λ given. given.items ≡ take (first - base.old) kept.old.items) }
+    ensures base { OnOk result (base.new ≡ base.old + (first - base.old)) }
+    ensures items { OnOk result (kept.new.items ≡ drop (first - base.old) kept.old.items) }
+    ensures reach { base.new ≤ first }
+    ensures len { base.new + vec_len kept.new ≡ base.old + vec_len kept.old }
+{
+    let count = first - *base;
+    let later = kept.split_off(count)?;
+    let given = replace(kept, later);
+    *base += count;
+    let more = kept.len().saturating_add(SLACK);
+    kept.reserve(more)?;
+    *limit = kept.len().saturating_add(more);
+    Ok(given)
+}
+
+/// Holds acts in other memory from now on.
+///
+/// # Errors
+///
+/// They are held where they were.
+fn hold_in<Op: Drop>(
+    mut room: Vec<KeptAct<Op>>,
+    kept: &mut Vec<KeptAct<Op>>,
+) -> Result<(), AllocError>
+    requires { room.items ≡ [] }
+    ensures items { kept.new.items ≡ kept.old.items }
+    ensures len { vec_len kept.new ≡ vec_len kept.old }
+{
+    room.append(kept)?;
+    *kept = room;
+    Ok(())
+}
+
 /// Draws the commands among acts that are to be drawn.
 ///
 /// # Errors
 ///
 /// Some of the commands were drawn.
-fn draw_kept<B: Board, D: Ledger, T: Ledger>(
+pub fn draw_kept<B: Board, D: Ledger, T: Ledger>(
     board: &mut B,
     kept: &[KeptAct<B::Op>],
     draws: &mut Steps<D>,
@@ -140,12 +190,21 @@ impl<B: Board> TrailingBoard<B> {
         self.settle(draws, tiles)
     }
 
-    /// Holds an act that comes next.
+    /// Holds an act that comes next, and draws nothing. Another board that trailed the history in
+    /// the place of this one would trail it too.
+    ///
+    /// # Errors
+    ///
+    /// If memory runs out. No board may trail the history then.
     #[inline(always)]
-    fn hold(&mut self, act: UserAct<B::Op>) -> Result<(), AllocError>
+    pub fn hold(&mut self, act: UserAct<B::Op>) -> Result<(), AllocError>
         ensures trails { OnOk result ((blank : B) (depth : ℕ) (acts : List (UserActOf B.Op))
             → Trails B.drawn blank depth acts self.old
             → Trails B.drawn blank depth (acts ++ act ∷ []) self.new) }
+        ensures apart { OnOk result ((board blank : B) (depth : ℕ)
+            (acts : List (UserActOf B.Op))
+            → Trails B.drawn blank depth acts (record self.old { board = board })
+            → Trails B.drawn blank depth (acts ++ act ∷ []) (record self.new { board = board })) }
         ensures few { OnOk result (length (commands_among self.new.kept)
             ≤ length (commands_among self.old.kept) + 1) }
     {
@@ -189,8 +248,7 @@ impl<B: Board> TrailingBoard<B> {
         self.draw_to_reach(draws, tiles)
     }
 
-    /// Draws the acts before the oldest point in reach, and lets them go. After that as many acts
-    /// again may come as are left, and some more: so each is moved in memory but a few times.
+    /// Draws the acts before the oldest point in reach, and lets them go.
     fn draw_to_reach<D: Ledger, T: Ledger>(
         &mut self,
         draws: &mut Steps<D>,
@@ -202,14 +260,35 @@ impl<B: Board> TrailingBoard<B> {
             ≤ draws.old + length (commands_among self.old.kept)) }
         ensures tiles_rise { tiles.old ≤ tiles.new }
     {
-        let count = self.table.oldest() - self.base;
-        draw_kept(&mut self.board, &self.kept[..count], draws, tiles)?;
-        self.kept = self.kept.split_off(count)?;
-        self.base += count;
-        let more = self.kept.len().saturating_add(SLACK);
-        self.kept.reserve(more)?;
-        self.limit = self.kept.len().saturating_add(more);
+        let first = self.table.oldest();
+        let given = let_go(&mut self.base, &mut self.kept, &mut self.limit, first)?;
+        draw_kept(&mut self.board, &given, draws, tiles)?;
         Ok(())
+    }
+
+    /// Gives the acts before the oldest point in reach, which no act can move any more, and holds
+    /// them no longer. The acts after them are held in `room` from then on. A board that trailed
+    /// the history trails it once the acts that are given are drawn on it.
+    ///
+    /// # Errors
+    ///
+    /// If memory runs out. No board may trail the history then.
+    pub fn give_settled(
+        &mut self,
+        room: Vec<KeptAct<B::Op>>,
+    ) -> Result<Vec<KeptAct<B::Op>>, AllocError>
+        requires { room.items ≡ [] }
+        ensures { IfOk result (λ given. (board blank : B) (depth : ℕ)
+            (acts : List (UserActOf B.Op))
+            → Trails B.drawn blank depth acts (record self.old { board = board })
+            → Trails B.drawn blank depth acts (record self.new {
+              board = fold B.drawn board (drawn_among given.items);
+            })) }
+    {
+        let first = self.table.oldest();
+        let settled = let_go(&mut self.base, &mut self.kept, &mut self.limit, first)?;
+        hold_in(room, &mut self.kept)?;
+        Ok(settled)
     }
 
     /// The board after all acts.

@@ -1,3 +1,4 @@
+pub mod Batches
 pub mod Inputs
 pub mod Recordings
 pub mod Replaying

@@ -18,17 +18,10 @@ use Rattle.std.specs.Io.KnownBytes.{IsAtEnd}
 use Rattle.dp_msg_draw.specs.declared.draw.Draw.{Draw}
 use Rattle.dp_plain.specs.Board.{Board}
 use Rattle.dp_trailing.specs.Trailing.{Trailing}
+use Rattle.dp_viewer.specs.Ahead.{ShowsFirst}
 use Rattle.dp_viewer.specs.Ways.{first_of, play_way}
 use Rattle.dp_viewer.specs.Reading.{AreDue, EndsReading, FaultMatchesWay, ReadsToEnd}
 use Rattle.dp_viewer.specs.Reading.{TrailsShown}
-
--- What was read of an input whose bytes are known, of which those are left. Of the entries that a
--- reader gave the board trails what the first `at` show, or all. Of them `due` are left to show.
-abbrev pub ShowsFirst : Option ℕ → Option (List ℕ) → Option (List ℕ) → Trailing Board Draw
-    → Option ℕ → Phase → Type 0
-ShowsFirst at input left board due reader =
-    IfSome input (λ bytes. (all : List Entry) × HasReadOf bytes left all reader
-    × TrailsShown board (first_of at all) × AreDue at all due)
 
 -- what holds if a call answers `Ok`, if it didn't answer an error
 pub on-no-error : {A E P : Type 0} (r : Result A E) (b : Bool) → b ≡ is_err r → b ≡ false

@@ -86,7 +86,7 @@ nothing_shown way told left out before now board LinkFault h b r = absurd b
 nothing_shown way told left out before now board Closed h b r = absurd b
 
 -- reading to the end raised no count
-kept_to_end : (way : Way) (before now : ℕ) (end : RunEnd) → FaultMatchesWay way before now end
+pub kept_to_end : (way : Way) (before now : ℕ) (end : RunEnd) → FaultMatchesWay way before now end
     → ReadsToEnd end
     → now ≡ before
 kept_to_end way before now Done b r = b

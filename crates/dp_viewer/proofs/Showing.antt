@@ -5,9 +5,9 @@ use Rattle.std.proofs.Common.{subst, inl, inr, ◌⊎◌, cond}
 use Rattle.std.specs.Prelude.{Option, Some, None, nat_lt}
 use Rattle.std.specs.List.{after_last, prefix_len, suffix_len}
 use Rattle.std.specs.Option.{option_map}
-use Rattle.std.proofs.lemmas.Bool.{cond-true, not_from_false, cases_lt}
+use Rattle.std.proofs.lemmas.Bool.{cond-true, cond-false, not_from_false, cases_lt}
 use Rattle.std.proofs.lemmas.List.{length_push, reverse-append, length-reverse}
-use Rattle.std.proofs.lemmas.List.{drop-append-le, map-append, take-append-le, take_all}
+use Rattle.std.proofs.lemmas.List.{drop-append-le, drop_all, map-append, take-append-le, take_all}
 use Rattle.std.proofs.lemmas.List.Sums.{prefix_len-le-length}
 use Rattle.dp_messages.specs.declared.message.Entry.{Entry}
 use Rattle.dp_msg_draw.specs.declared.draw.Draw.{Draw}
@@ -38,6 +38,23 @@ after_last-fails {X} p xs x fails =
     omega (arith, length_push xs x, few, more) in
     ap (λ k. drop k (xs ++ x ∷ [])) place
     ∙ drop-append-le (length xs - n) xs (x ∷ []) (omega arith)
+
+-- after an item that passes there is none
+after_last-passes : {X : Type 0} (p : X → Bool) (xs : List X) (x : X) → p x ≡ true
+    → after_last p (xs ++ x ∷ []) ≡ []
+after_last-passes {X} p xs x passes =
+    let q : X → Bool = λ y. not (p y) in
+    let none : suffix_len q (xs ++ x ∷ []) ≡ 0 =
+    suffix_len-push q xs x ∙ cond-false (not (p x)) (1 + suffix_len q xs) 0 (ap not passes) in
+    ap (λ n. drop (length (xs ++ x ∷ []) - n) (xs ++ x ∷ [])) none
+    ∙ drop_all (length (xs ++ x ∷ []) - 0) (xs ++ x ∷ []) (omega arith)
+
+-- a mark of a reset comes next, and a board of no entries begins anew
+pub TrailsShown-mark : (later : Trailing Board Draw) (all : List Entry) (entry : Entry)
+    → is_mark entry ≡ true → TrailsShown later [] → TrailsShown later (all ++ entry ∷ [])
+TrailsShown-mark later all entry mark blank =
+    subst (λ (es : List Entry). Trails draw empty_board undo_depth (map user_act_of es) later)
+    (sym (after_last-passes is_mark all entry mark)) blank
 
 -- an entry that is no mark of a reset comes next, and the board takes its act
 pub TrailsShown-entry : (board later : Trailing Board Draw) (all : List Entry) (entry : Entry)

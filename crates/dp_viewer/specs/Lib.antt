@@ -1,3 +1,4 @@
+pub mod Ahead
 pub mod Pictures
 pub mod Reading
 pub mod Ways

@@ -1,6 +1,7 @@
 //! Pictures of what an input shows: of frames, and of a recording.
 #![tactic(auto)]
 
+mod ahead;
 mod laws;
 mod pictures;
 mod reading;

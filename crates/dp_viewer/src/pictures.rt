@@ -1,12 +1,15 @@
 //! The commands `replay` and `play`: an input whose picture is written.
 
-ghost use Rattle.std.specs.Prelude.{◌≡◌, ◌≤◌, true};
+ghost use Rattle.std.specs.Prelude.{◌≤◌, [], IfSome};
+ghost use Rattle.std.specs.Io.KnownBytes.{IsAtEnd};
 ghost use Rattle.dp_lines.specs.RunEnds.{FaultMatchesEnd};
 ghost use Rattle.dp_viewer.specs.Pictures.{PictureLeaves};
-ghost use Rattle.dp_viewer.specs.Reading.{ReadsToEnd, WritesShown};
+ghost use Rattle.dp_viewer.specs.Reading.{EndsReading, FaultMatchesWay, ReadsToEnd};
+ghost use Rattle.dp_viewer.specs.Reading.{TrailsShown, WritesShown};
 ghost use Rattle.dp_viewer.specs.Ways.{play_way, replay_way};
 
-use crate::reading::{Reading, ShownBoard, blank_board, read_frames, read_recording};
+use crate::ahead::{Played, read_ahead};
+use crate::reading::{Reading, ShownBoard, blank_board, read_frames, read_recording, reads_to_end};
 use crate::workers::{Playing, WorkersBoard};
 use dp_flat::write_p6;
 use dp_io::{Sink, Source};
@@ -63,7 +66,7 @@ pub fn run_replay<I: Source, O: Sink, D: Ledger, T: Ledger>(
 /// from the input's start.
 ///
 /// The rule: docs/protocol.md, "Recordings".
-pub fn run_play<R: Threads + Sync, I: Source, O: Sink, G: Gate, D: Ledger, T: Ledger>(
+pub fn run_play<R: Threads + Sync, I: Source, O: Sink, G: Gate, D: Ledger + Send, T: Ledger + Send>(
     rt: &R,
     alloc: Global,
     input: &mut I,
@@ -82,8 +85,8 @@ pub fn run_play<R: Threads + Sync, I: Source, O: Sink, G: Gate, D: Ledger, T: Le
     let Ok(blank) = blank_board(alloc) else {
         return RunEnd::Memory;
     };
-    let mut shown = WorkersBoard::new(rt, blank, playing);
-    let end = read_recording(alloc, input, &mut shown, draws, tiles);
+    let shown = WorkersBoard::new(rt, blank, playing);
+    let Played { shown, end } = read_shown(alloc, input, shown, draws, tiles);
     if reads_to_end(end) {
         shown.write(alloc, output, end, draws, tiles)
     } else {
@@ -91,12 +94,27 @@ pub fn run_play<R: Threads + Sync, I: Source, O: Sink, G: Gate, D: Ledger, T: Le
     }
 }
 
-/// Whether the input is read to its end if reading it ends with this.
-fn reads_to_end(end: RunEnd) -> bool
-    ensures yes { result ≡ true → ReadsToEnd end }
-    ensures no { ReadsToEnd end → result ≡ true }
+/// Reads a recording to its end. If there are several workers, they paint while entries are read.
+fn read_shown<'a, R: Threads + Sync, I: Source, G: Gate, D: Ledger + Send, T: Ledger + Send>(
+    alloc: Global,
+    input: &mut I,
+    mut shown: WorkersBoard<'a, R, G>,
+    draws: &mut Steps<D>,
+    tiles: &mut Steps<T>,
+) -> Played<'a, R, G>
+    requires { TrailsShown shown.board [] }
+    ensures told { IfSome (I.left input.old) (λ bytes. EndsReading (play_way shown.entry.due) bytes
+        (I.left input.new) result.shown.board result.end) }
+    ensures fault { FaultMatchesWay (play_way shown.entry.due) (I.faults input.old)
+        (I.faults input.new) result.end }
+    ensures later { I.faults input.old ≤ I.faults input.new }
+    ensures to_end { ReadsToEnd result.end → IsAtEnd (I.left input.new) }
 {
-    matches!(end, RunEnd::Done | RunEnd::Truncated(_))
+    if shown.workers.count < 2 {
+        let end = read_recording(alloc, input, &mut shown, draws, tiles);
+        return Played { shown, end };
+    }
+    read_ahead(alloc, input, shown, draws, tiles)
 }
 
 /// Writes the picture of what the board trails. Ends as given if it is written.

@@ -1,7 +1,7 @@
 //! The board of what an input shows.
 
 ghost use Rattle.std.specs.Prelude.{◌≡◌, ℕ, ◌-◌, ◌≤◌, List, [], ◌∷◌, ◌++◌, Option, IfSome, IfOk};
-ghost use Rattle.std.specs.Prelude.{OnOk};
+ghost use Rattle.std.specs.Prelude.{OnOk, true};
 ghost use Rattle.std.specs.Io.KnownBytes.{IsAtEnd};
 ghost use Rattle.std.specs.Option.{option_map};
 ghost use Rattle.dp_messages.specs.declared.message.Entry.{Entry as Item};
@@ -132,7 +132,7 @@ pub(crate) fn read_recording<R: Threads + Sync, I: Source, G: Gate, D: Ledger, T
             Ok(None) => return RunEnd::Done,
             Err(error) => return error.run_end(),
         };
-        if shown.show(alloc, entry, draws, tiles).is_err() {
+        if show_due(alloc, &mut shown.board, &mut shown.due, entry, draws, tiles).is_err() {
             return RunEnd::Memory;
         }
     }
@@ -140,7 +140,7 @@ pub(crate) fn read_recording<R: Threads + Sync, I: Source, G: Gate, D: Ledger, T
 
 /// Shows the next entry if it is one of the first, of which `due` are left to show, or of all.
 #[inline(always)]
-pub(crate) fn show_due<D: Ledger, T: Ledger>(
+fn show_due<D: Ledger, T: Ledger>(
     alloc: Global,
     board: &mut ShownBoard,
     due: &mut Option<u32>,
@@ -162,7 +162,7 @@ pub(crate) fn show_due<D: Ledger, T: Ledger>(
 }
 
 /// Whether one more entry is shown if `due` are left to show, or all. It is one less then.
-fn take_due(due: &mut Option<u32>) -> bool
+pub(crate) fn take_due(due: &mut Option<u32>) -> bool
     ensures value { result ≡ is_due due.old }
     ensures left { due.new ≡ option_map (λ n. n - 1) due.old }
 {
@@ -174,4 +174,12 @@ fn take_due(due: &mut Option<u32>) -> bool
         }
         None => true,
     }
+}
+
+/// Whether the input is read to its end if reading it ends with this.
+pub(crate) fn reads_to_end(end: RunEnd) -> bool
+    ensures yes { result ≡ true → ReadsToEnd end }
+    ensures no { ReadsToEnd end → result ≡ true }
+{
+    matches!(end, RunEnd::Done | RunEnd::Truncated(_))
 }

@@ -1,25 +1,19 @@
 //! The board of a recording, on which workers paint.
 
-ghost use Rattle.std.specs.Prelude.{◌≡◌, ℕ, ◌≤◌, List, [], ◌∷◌, ◌++◌, Option, OnOk};
-ghost use Rattle.dp_messages.specs.declared.message.Entry.{Entry as Item};
-ghost use Rattle.dp_viewer.specs.Reading.{AreDue, TrailsShown, WritesShown};
-ghost use Rattle.dp_viewer.specs.Ways.{first_of};
+ghost use Rattle.std.specs.Prelude.{◌≡◌, ◌≤◌};
+ghost use Rattle.dp_viewer.specs.Reading.{WritesShown};
 
-use crate::reading::{ShownBoard, show_due};
-use dp_canvas::{DeferredBoard, Workers, settle_half_full};
+use crate::reading::ShownBoard;
+use dp_canvas::Workers;
 use dp_flat::write_p6_by;
 use dp_io::Sink;
 use dp_lines::RunEnd;
-use dp_messages::Entry;
 use dp_shown::PictureEnd;
 use dp_steps::Steps;
 use dp_wire::Gate;
-use std::alloc::{AllocError, Global};
+use std::alloc::Global;
 use std::sync::ledger::Ledger;
 use std::thread::Threads;
-
-/// How many entries are shown between two looks at what waits.
-const LOOK: u32 = 1024;
 
 /// Which entries of a recording are shown, and by how many workers.
 #[derive(Drop)]
@@ -32,15 +26,14 @@ pub struct Playing<'a, G> {
     pub gate: &'a G,
 }
 
-/// A board that trails what a recording shows, and how many entries are left to show, or all. If
-/// there is more than one worker, they paint what waits on layers on which much does.
+/// A board that trails what a recording shows, how many entries are left to show, or all, and the
+/// workers who paint it.
 #[derive(Drop)]
 pub(crate) struct WorkersBoard<'a, R, G> {
     pub board: ShownBoard,
     pub due: Option<u32>,
-    rt: &'a R,
-    workers: Workers<'a, G>,
-    unseen: u32,
+    pub rt: &'a R,
+    pub workers: Workers<'a, G>,
 }
 
 impl<'a, R: Threads + Sync, G: Gate> WorkersBoard<'a, R, G> {
@@ -58,56 +51,7 @@ impl<'a, R: Threads + Sync, G: Gate> WorkersBoard<'a, R, G> {
                 count: workers,
                 gate,
             },
-            unseen: 0,
         }
-    }
-
-    /// Shows the next entry if it is one of those that are left to show, or of all.
-    #[inline(always)]
-    pub(crate) fn show<D: Ledger, T: Ledger>(
-        &mut self,
-        alloc: Global,
-        entry: Entry,
-        draws: &mut Steps<D>,
-        tiles: &mut Steps<T>,
-    ) -> Result<(), AllocError>
-        ensures shown { OnOk result ((at : Option ℕ) (all : List Item) → AreDue at all self.old.due
-            → TrailsShown self.old.board (first_of at all)
-            → TrailsShown self.new.board (first_of at (all ++ entry ∷ []))) }
-        ensures left { (at : Option ℕ) (all : List Item) → AreDue at all self.old.due
-            → AreDue at (all ++ entry ∷ []) self.new.due }
-    {
-        show_due(alloc, &mut self.board, &mut self.due, entry, draws, tiles)?;
-        self.tend(alloc, tiles)
-    }
-
-    /// If there are several workers, has them paint what waits on layers on which much does, once
-    /// in a number of entries.
-    #[inline(always)]
-    fn tend<T: Ledger>(&mut self, alloc: Global, tiles: &mut Steps<T>) -> Result<(), AllocError>
-        ensures board { self.new.board ≡ self.old.board }
-        ensures due { self.new.due ≡ self.old.due }
-    {
-        if self.workers.count < 2 {
-            return Ok(());
-        }
-        if self.unseen < LOOK {
-            self.unseen += 1;
-            return Ok(());
-        }
-        self.unseen = 0;
-        self.settle(alloc, tiles)
-    }
-
-    /// Has workers paint what waits on layers on which much does.
-    fn settle<T: Ledger>(&mut self, alloc: Global, tiles: &mut Steps<T>) -> Result<(), AllocError>
-        ensures board { self.new.board ≡ self.old.board }
-        ensures due { self.new.due ≡ self.old.due }
-    {
-        let mut board = self.board.put_board(DeferredBoard::new(alloc));
-        let settled = settle_half_full(self.rt, alloc, &mut board, &self.workers, tiles);
-        let _blank = self.board.put_board(board);
-        settled
     }
 
     /// Has the workers write the picture of what the board trails. Ends as given if it is written.

@@ -15,15 +15,15 @@ entries-init g c = record {
 pub entries-preserved : goal.entries-preserved
 entries-preserved g c =
     let gives = rw c.in-Ok-Some.field-0-is at c.in-Ok-Some.ensures.pulled in
-    let shown = on-no-error c.show.result c.is_err.result c.is_err.ensures.value
-    c.if-is_err.false c.show.ensures.shown in
+    let shown = on-no-error c.show_due.result c.is_err.result c.is_err.ensures.value
+    c.if-is_err.false c.show_due.ensures.shown in
     record {
       told =
           shows-further c.args.shown.now.due (g.I.Source.left c.args.input.now)
           (g.I.Source.left c.entries.input) (g.I.Source.left c.next.new.input)
-          c.entries.shown.board c.show.new.self.board c.entries.shown.due c.show.new.self.due
-          c.in-Ok-Some.entry c.entries.reader c.next.new.self gives.read shown c.show.ensures.left
-          c.entries.invariant.told;
+          c.entries.shown.board c.show_due.new.board c.entries.shown.due c.show_due.new.due
+          c.in-Ok-Some.entry c.entries.reader c.next.new.self gives.read shown
+          c.show_due.ensures.left c.entries.invariant.told;
       going = gives.goes_on;
       kept = gives.kept ∙ c.entries.invariant.kept;
     }

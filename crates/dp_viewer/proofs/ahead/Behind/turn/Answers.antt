@@ -1,0 +1,16 @@
+use Rattle.std.proofs.Common.{map}
+use Rattle.std.specs.List.{after_last}
+use Rattle.dp_plain.specs.Board.{empty_board}
+use Rattle.dp_replay.specs.Replay.{is_mark, undo_depth, user_act_of}
+use Rattle.dp_viewer.proofs.Batches.{goes-marked}
+use Rattle.dp_viewer.proofs.ahead.Behind.turn.Goals as goal
+
+pub returns-then-marked : goal.returns-then-marked
+returns-then-marked c =
+    rw c.if-marked.true (goes-marked c.args.board.now c.put_board.new.self _ c.put_board.result _
+    c.put_board.ensures.new c.put_board.ensures.old c.new-ready.ensures.items)
+
+pub returns-in_ok-ready : goal.returns-in_ok-ready
+returns-in_ok-ready c = rw c.if-marked.false (λ entries trails.
+    c.in_ok-ready.ensures c.args.self.now.board empty_board undo_depth
+    (map user_act_of (after_last is_mark entries)) trails)
