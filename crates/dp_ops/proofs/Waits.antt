@@ -1,5 +1,5 @@
 -- Lists of operations, by the columns and rows of their tiles.
-use Rattle.std.proofs.Common.{◌≡◌, ℕ, zero, suc, ◌+◌, ◌-◌, ◌*◌, ◌<◌, ◌≤◌, List, [], ◌∷◌, ◌++◌}
+use Rattle.std.proofs.Common.{◌≡◌, ℕ, zero, suc, ◌+◌, ◌-◌, ◌<◌, ◌≤◌, List, [], ◌∷◌, ◌++◌}
 use Rattle.std.proofs.Common.{length, get_or}
 use Rattle.std.proofs.Common.{refl, sym, ◌∙◌, ap, arith, ⊎_elim, ◌&&◌, leb, ltb, cond}
 use Rattle.std.proofs.Common.{true, length-append}
@@ -10,8 +10,9 @@ use Rattle.dp_tile.specs.declared.area.CellArea.{CellArea}
 use Rattle.dp_tile.specs.Areas.{is_in_cells}
 use Rattle.dp_ops.specs.declared.lists.Finish.{Finish}
 use Rattle.dp_ops.specs.declared.lists.Finish.TheVariants as ways
-use Rattle.dp_ops.specs.Lists.{AllCount, HaveSameLists, IsChangedOn, IsInside, Lists}
-use Rattle.dp_ops.specs.Lists.{IsFinished, Waiting, finished, list_at, no_list, row_to}
+use Rattle.dp_ops.specs.Lists.{AllCount, HasLists, HaveSameLists, IsChangedOn, IsFinished}
+use Rattle.dp_ops.specs.Lists.{IsInside, Lists, Waiting, cell_place, finished, list_at, no_list}
+use Rattle.dp_ops.specs.Lists.{row_to}
 
 -- ---- cells of an area
 
@@ -43,7 +44,17 @@ inside_by area col row is =
 
 abbrev at_first : Lists → ℕ → ℕ → List Waiting → Waiting
 at_first l col row lists =
-    cond (leb l.first row) (get_or lists ((row - l.first) * 64 + col) no_list) no_list
+    cond (leb l.first row) (get_or lists (cell_place col (row - l.first)) no_list) no_list
+
+-- ---- lists that are there
+
+-- fewer columns and rows of as many lists
+pub has_fewer : (right bottom few low : ℕ) (old new : Lists) → new.first ≡ old.first
+    → length new.lists ≡ length old.lists → few ≤ right → low ≤ bottom
+    → HasLists right bottom old → HasLists few low new
+has_fewer right bottom few low old new first len across down has col row in_cols from in_rows =
+    rw (first, len) (has col row (omega (arith, in_cols, across)) (omega (arith, from, first))
+    (omega (arith, in_rows, down)))
 
 -- ---- areas that change list by list
 
@@ -186,7 +197,7 @@ pub pushed_same : (l : Lists) (new : List Waiting) → new ≡ l.lists ++ no_lis
 pushed_same l new is col row few =
     ap (λ (lists : List Waiting). at_first l col row lists) is
     ∙ ap (λ (w : Waiting). cond (leb l.first row) w no_list)
-    (get_or_push l.lists no_list ((row - l.first) * 64 + col))
+    (get_or_push l.lists no_list (cell_place col (row - l.first)))
 
 -- a list of what counts alone
 abbrev pub counted : Waiting → Waiting

@@ -1,5 +1,5 @@
 -- Operations that wait for the tiles of a grid.
-use Rattle.std.specs.Prelude.{◌≡◌, ℕ, ◌+◌, ◌-◌, ◌*◌, ◌<◌, ◌≤◌, pos, ℤ}
+use Rattle.std.specs.Prelude.{◌≡◌, ℕ, ◌+◌, ◌-◌, ◌*◌, ◌/◌, ◌%◌, ◌<◌, ◌≤◌, pos, ℤ}
 use Rattle.std.specs.Prelude.{nat_le, if◌then◌else◌, List, [], ◌++◌, length, slice_index_or}
 use Rattle.std.specs.Prelude.{slice_get, Some, ⊤}
 use Rattle.dp_blend.specs.Color.{Channels}
@@ -21,16 +21,21 @@ pub record Waiting : Type 0 where
 abbrev pub no_list : Waiting
 no_list = record { ops = []; more = [] }
 
--- lists of tiles, 64 for each row of tiles, from a row on
+-- lists of tiles, from a row of tiles on
 pub record Lists : Type 0 where
   pub first : ℕ
   pub lists : List Waiting
+
+-- Where the list of a tile stands, by its column and how many rows it is down: in strips of 8 rows
+-- of 64 tiles, and in a strip column by column.
+abbrev pub cell_place : ℕ → ℕ → ℕ
+cell_place col down = (down / 8) * 512 + col * 8 + down % 8
 
 -- the list of the tile at a column and a row
 abbrev pub list_at : Lists → ℕ → ℕ → Waiting
 list_at l col row =
     if nat_le l.first row
-    then slice_index_or l.lists ((row - l.first) * 64 + col) no_list
+    then slice_index_or l.lists (cell_place col (row - l.first)) no_list
     else no_list
 
 -- the operations that wait there
@@ -92,6 +97,12 @@ IsFinished how col row old new = new ≡ finished how old
 -- the cells of a row from a column on before another
 abbrev pub row_to : ℕ → ℕ → ℕ → CellArea
 row_to row left right = record { left = left; right = right; top = row; bottom = row + 1 }
+
+-- the list of each tile in the columns before one and the rows before one is there
+abbrev pub HasLists : ℕ → ℕ → Lists → Type 0
+HasLists right bottom l =
+    (col row : ℕ) → col < right → l.first ≤ row → row < bottom
+    → cell_place col (row - l.first) < length l.lists
 
 -- nothing was added on any tile that doesn't count
 abbrev pub AllCount : Lists → Type 0

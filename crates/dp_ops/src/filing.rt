@@ -8,8 +8,8 @@ ghost use Rattle.dp_pixels.specs.Commands.{IsDabs, pixel_after};
 ghost use Rattle.dp_pixels.specs.Strokes.{brush_of};
 ghost use Rattle.dp_pixels.specs.Rectangles.{is_in};
 ghost use Rattle.dp_ops.specs.Ops.{tile_place};
-ghost use Rattle.dp_ops.specs.Lists.{AddsMore, AllCount, HaveSame, IsChangedOn, IsFiled};
-ghost use Rattle.dp_ops.specs.Lists.{IsInside, StandsOn, StayOutside, anywhere, filed_at};
+ghost use Rattle.dp_ops.specs.Lists.{AddsMore, AllCount, HasLists, HaveSame, IsChangedOn};
+ghost use Rattle.dp_ops.specs.Lists.{IsFiled, IsInside, StandsOn, StayOutside, anywhere, filed_at};
 
 use crate::lists::{Finish, TileLists};
 use crate::op::{OPAQUE, TileDab, TileFill, TileOp};
@@ -223,7 +223,7 @@ fn add_dabs(
     requires cols { area.right ≤ 64 }
     requires rows { area.bottom ≤ 64 }
     requires first { lists.old.first ≤ area.top }
-    requires room { (area.bottom - lists.old.first) * 64 ≤ length lists.old.lists }
+    requires room { HasLists area.right area.bottom lists.old }
     ensures first { lists.new.first ≡ lists.old.first }
     ensures len { length lists.new.lists ≡ length lists.old.lists }
     ensures same { HaveSame lists.old lists.new }
@@ -278,7 +278,7 @@ fn add_command(
     requires cols { area.right ≤ 64 }
     requires rows { area.bottom ≤ 64 }
     requires first { lists.old.first ≤ area.top }
-    requires room { (area.bottom - lists.old.first) * 64 ≤ length lists.old.lists }
+    requires room { HasLists area.right area.bottom lists.old }
     ensures first { lists.new.first ≡ lists.old.first }
     ensures len { length lists.new.lists ≡ length lists.old.lists }
     ensures same { HaveSame lists.old lists.new }
@@ -345,7 +345,7 @@ pub fn file(
     ensures same { OnErr result (HaveSame lists.old lists.new) }
     ensures counts { AllCount lists.new }
 {
-    lists.grow(alloc, area.bottom)?;
+    lists.grow(alloc, area.right, area.bottom)?;
     match add_command(lists, alloc, source, area) {
         Ok(()) => {
             lists.finish(area, Finish::Keep);

@@ -4,8 +4,8 @@ ghost use Rattle.std.specs.Prelude.{◌≡◌, ◌+◌, ◌-◌, ◌*◌, ◌<�
 ghost use Rattle.std.specs.Prelude.{IfOk, OnOk, true};
 ghost use Rattle.dp_ops.specs.Ops.{IsPackable};
 ghost use Rattle.dp_ops.specs.Lists.{AddsMore, HaveSame, HaveSameLists, IsChangedOn};
-ghost use Rattle.dp_ops.specs.Lists.{AllCount, IsFinished, StayOutside, finished, listed_at};
-ghost use Rattle.dp_ops.specs.Lists.{no_list, row_to};
+ghost use Rattle.dp_ops.specs.Lists.{AllCount, HasLists, IsFinished, StayOutside, cell_place};
+ghost use Rattle.dp_ops.specs.Lists.{finished, listed_at, no_list, row_to};
 
 use crate::filing::TileSource;
 use crate::op::{PackedOp, TileOp};
@@ -114,8 +114,8 @@ fn is_one_cell(area: CellArea) -> bool
     area.right - area.left == 1 && area.bottom - area.top == 1
 }
 
-/// Lists of operations of the tiles of a grid, from a row of tiles on. Those of the last rows may
-/// not be there yet.
+/// Lists of operations of the tiles of a grid, from a row of tiles on, in strips of 8
+/// rows. The last ones may not be there yet.
 #[derive(Drop)]
 pub struct TileLists {
     first: u32,
@@ -155,27 +155,30 @@ impl TileLists {
         self.lists.is_empty()
     }
 
-    /// Where the list of a tile stands.
+    /// Where the list of a tile stands: in strips of 8 rows, and there column by column.
     #[inline(always)]
     fn index(&self, col: u32, row: u32) -> usize
         requires col { col < 64 }
-        requires row { row < 64 }
         requires first { self.now.first ≤ row }
-        ensures { result ≡ (row - self.now.first) * 64 + col }
+        ensures { result ≡ cell_place col (row - self.now.first) }
     {
-        (row - self.first) as usize * 64 + col as usize
+        let down = (row - self.first) as usize;
+        (down / 8 * 64 + col as usize) * 8 + down % 8
     }
 
-    /// Makes the lists of the rows before this one, if they aren't there yet.
+    /// Makes the lists of the tiles in the columns before one and the rows before one, if they
+    /// aren't there yet. Those of the whole last column of a strip are made.
     #[inline(always)]
-    pub(crate) fn grow(&mut self, alloc: Global, bottom: u32) -> Result<(), AllocError>
+    pub(crate) fn grow(&mut self, alloc: Global, right: u32, bottom: u32) -> Result<(), AllocError>
+        requires cols { right ≤ 64 }
         requires first { self.old.first ≤ bottom }
         requires few { bottom ≤ 64 }
         ensures first { self.new.first ≡ self.old.first }
         ensures same { HaveSameLists self.old self.new }
-        ensures room { OnOk result ((bottom - self.new.first) * 64 ≤ length self.new.lists) }
+        ensures room { OnOk result (HasLists right bottom self.new) }
     {
-        for _made in self.lists.len()..(bottom - self.first) as usize * 64 {
+        let strips = (bottom - self.first).saturating_sub(1) / 8;
+        for _made in self.lists.len()..(strips * 64 + right) as usize * 8 {
             self.lists.push(OpList::new(alloc))?;
         }
         Ok(())
@@ -187,7 +190,7 @@ impl TileLists {
         requires col { col < 64 }
         requires row { row < 64 }
         requires first { self.old.first ≤ row }
-        requires room { (row + 1 - self.old.first) * 64 ≤ length self.old.lists }
+        requires room { cell_place col (row - self.old.first) < length self.old.lists }
         ensures first { self.new.first ≡ self.old.first }
         ensures len { length self.new.lists ≡ length self.old.lists }
         ensures same { HaveSame self.old self.new }
@@ -212,7 +215,7 @@ impl TileLists {
         requires cols { right ≤ 64 }
         requires row { row < 64 }
         requires first { self.old.first ≤ row }
-        requires room { (row + 1 - self.old.first) * 64 ≤ length self.old.lists }
+        requires room { HasLists right (row + 1) self.old }
         ensures first { self.new.first ≡ self.old.first }
         ensures len { length self.new.lists ≡ length self.old.lists }
         ensures same { HaveSame self.old self.new }
@@ -241,7 +244,7 @@ impl TileLists {
         requires cols { area.right ≤ 64 }
         requires rows { area.bottom ≤ 64 }
         requires first { self.old.first ≤ area.top }
-        requires room { (area.bottom - self.old.first) * 64 ≤ length self.old.lists }
+        requires room { HasLists area.right area.bottom self.old }
         ensures first { self.new.first ≡ self.old.first }
         ensures len { length self.new.lists ≡ length self.old.lists }
         ensures same { HaveSame self.old self.new }
@@ -331,10 +334,7 @@ impl TileLists {
         if row < self.first {
             return &[];
         }
-        match self
-            .lists
-            .get((row - self.first) as usize * 64 + col as usize)
-        {
+        match self.lists.get(self.index(col, row)) {
             Some(list) => list.ops(),
             None => &[],
         }

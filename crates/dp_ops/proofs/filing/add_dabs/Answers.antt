@@ -12,6 +12,7 @@ use Rattle.dp_pixels.specs.Rectangles.{is_in}
 use Rattle.dp_pixels.proofs.FootLemmas.{dab_stays}
 use Rattle.dp_ops.specs.Lists.{anywhere}
 use Rattle.dp_ops.proofs.Filed.{adds_none, adds_same, adds_then, dabs_next}
+use Rattle.dp_ops.proofs.Waits.{has_fewer}
 use Rattle.dp_ops.proofs.filing.add_dabs.Goals as goal
 
 pub loop-dab-init : goal.loop-dab-init
@@ -87,3 +88,11 @@ returns-clause-added c =
     ∙ sym (c.messages_are_their_dabs.ensures.drawn c.args.command.now _ x y p
     c.in-Some.ensures.some))
     c.loop-dab.invariant.added
+
+pub add-requires-clause-room : goal.add-requires-clause-room
+add-requires-clause-room c =
+    let area = c.args.area in
+    let met = c.cells_met.result in
+    has_fewer area.right area.bottom met.right met.bottom c.args.lists.now c.loop-dab.lists
+    c.loop-dab.invariant.first c.loop-dab.invariant.len c.cells_met.ensures.right
+    c.cells_met.ensures.bottom c.requires.room

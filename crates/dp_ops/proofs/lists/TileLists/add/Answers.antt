@@ -1,6 +1,6 @@
-use Rattle.std.proofs.Common.{ap, arith, length, subst, sym, ◌∙◌}
+use Rattle.std.proofs.Common.{ap, arith, length, subst, sym, ◌+◌, ◌∙◌}
 use Rattle.dp_ops.specs.Lists.{AddsMore, IsChangedOn, Lists, list_at, listed_at}
-use Rattle.dp_ops.proofs.Waits.{rows_next, rows_none, rows_to}
+use Rattle.dp_ops.proofs.Waits.{has_fewer, rows_next, rows_none, rows_to}
 use Rattle.dp_ops.proofs.lists.TileLists.add.Goals as goal
 
 pub loop-row-init : goal.loop-row-init
@@ -47,3 +47,10 @@ returns-in_err-add_row-clause-others g c = λ col row few out.
       bottom = omega (arith, i.bottom, c.loop-row-test.true);
     }))
     ∙ c.loop-row.invariant.others col row few out
+
+pub add_row-requires-clause-room : goal.add_row-requires-clause-room
+add_row-requires-clause-room g c =
+    let area = c.args.area in
+    has_fewer area.right area.bottom area.right (c.loop-row.row + 1) c.args.self.now
+    c.loop-row.self c.loop-row.invariant.first c.loop-row.invariant.len (omega arith)
+    (omega (arith, c.loop-row-test.true)) c.requires.room

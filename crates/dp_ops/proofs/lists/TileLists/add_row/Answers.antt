@@ -1,6 +1,6 @@
-use Rattle.std.proofs.Common.{arith, refl, ◌∙◌}
+use Rattle.std.proofs.Common.{arith, refl, ◌+◌, ◌∙◌}
 use Rattle.dp_ops.specs.Lists.{AddsMore}
-use Rattle.dp_ops.proofs.Waits.{row_next, row_none}
+use Rattle.dp_ops.proofs.Waits.{has_fewer, row_next, row_none}
 use Rattle.dp_ops.proofs.lists.TileLists.add_row.Goals as goal
 
 pub loop-col-init : goal.loop-col-init
@@ -44,3 +44,10 @@ returns-in_err-add_at-clause-others g c = λ col row few out.
       bottom = i.bottom;
     }))
     ∙ c.loop-col.invariant.others col row few out
+
+pub add_at-requires-clause-room : goal.add_at-requires-clause-room
+add_at-requires-clause-room g c =
+    has_fewer c.args.right (c.args.row + 1) c.args.right (c.args.row + 1) c.args.self.now
+    c.loop-col.self c.loop-col.invariant.first c.loop-col.invariant.len (omega arith)
+    (omega arith) c.requires.room c.loop-col.col c.args.row c.loop-col-test.true
+    (omega (arith, c.loop-col.invariant.first, c.requires.first)) (omega arith)
