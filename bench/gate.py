@@ -6,6 +6,8 @@ bench/gate.py watch PID LOG      the same of a gate that runs already: of the pr
 bench/gate.py table LOG ..       prints the seconds of each crate, as a table for docs/
 bench/gate.py above CRATE LOG ..  prints what a change of this crate's proofs has proved again
 bench/gate.py page LOG ..        writes both tables of docs/gate.md anew, and its sentence of sums
+bench/gate.py functions CRATE    after `rm -rf out/incremental; rt check` in the crate: the seconds that
+                                 the check took for each function, dearest first
 
 The gate prints no times. So each second the processes below it are read from /proc: the processor
 time of each prover with the copies of itself that it forked, and the most memory that one of them
@@ -243,6 +245,21 @@ def page(logs):
     open(name, "w", encoding="utf-8").write(text)
 
 
+def functions(crate):
+    """Prints the seconds of each function, by the times at which the check kept its modules."""
+    top = os.path.join(os.path.dirname(os.path.dirname(os.path.abspath(__file__))), "crates", crate, "out/incremental")
+    kept = sorted((os.stat(os.path.join(at, it)).st_mtime, it) for at, _, all in os.walk(top) for it in all)
+    if not kept:
+        sys.exit(f"nothing is kept in {top}")
+    took = {}
+    for (before, _), (now, it) in zip(kept, kept[1:]):
+        found = re.match(r"Rattle-\w+-proofs\.(.+)\.\w+\.oantt$", it.replace(".decls", ""))
+        name = found[1] if found else "the rest"
+        took[name] = took.get(name, 0) + now - before
+    for name, seconds in sorted(took.items(), key=lambda it: -it[1]):
+        print(f"{seconds:7.1f} {name}")
+
+
 if __name__ == "__main__":
     if len(sys.argv) >= 3 and sys.argv[1] == "run":
         sys.exit(run(sys.argv[2], sys.argv[3:] or ["rt", "ci", "--anew"]))
@@ -253,6 +270,8 @@ if __name__ == "__main__":
     if len(sys.argv) >= 4 and sys.argv[1] == "above":
         count, took = above(sys.argv[2], rows_of(sys.argv[3:]))
         sys.exit(print(f"{sys.argv[2]}: {count} crates, {took:.0f} minutes of a processor"))
+    if len(sys.argv) == 3 and sys.argv[1] == "functions":
+        sys.exit(functions(sys.argv[2]))
     if len(sys.argv) >= 3 and sys.argv[1] == "page":
         sys.exit(page(sys.argv[2:]))
     sys.exit(__doc__)
