@@ -1,5 +1,5 @@
-//! The tests of boards, rollbacks, forks, screens and snapshots, in a crate of their own: so each
-//! crate of these is proved once, and not once more with its tests.
+//! The tests of boards, rollbacks, forks and screens, in a crate of their own: so each crate of
+//! these is proved once, and not once more with its tests.
 #![tactic(auto)]
 
 #[cfg(test)]
@@ -8,7 +8,5 @@ mod forks;
 mod rollbacks;
 #[cfg(test)]
 mod screens;
-#[cfg(test)]
-mod snapshots;
 #[cfg(test)]
 mod strokes;

@@ -1,5 +1,5 @@
-//! The tests of rights, of the list of layers, and of the plain board: what no row of `dp_rows`
-//! shows.
+//! The tests of rights, of the list of layers, of the plain board, and of snapshots: what no row of
+//! `dp_rows` shows.
 #![tactic(auto)]
 
 #[cfg(test)]
@@ -8,3 +8,5 @@ mod acl;
 mod layers;
 #[cfg(test)]
 mod plain;
+#[cfg(test)]
+mod snapshots;

@@ -1,4 +1,4 @@
-//! The tests of drawing messages, of blending and of commands on pixels.
+//! The tests of drawing messages, of blending, of commands on pixels, and of tiles and layers.
 #![tactic(auto)]
 
 #[cfg(test)]
@@ -9,3 +9,7 @@ mod colors;
 mod commands;
 #[cfg(test)]
 mod drawing;
+#[cfg(test)]
+mod painting;
+#[cfg(test)]
+mod tiles;

@@ -1,4 +1,4 @@
-use Rattle.dp_boards_tests.proofs.snapshots.snapshots.Given as goal
+use Rattle.dp_clients_tests.proofs.snapshots.snapshots.Given as goal
 
 abbrev pub ghosts-check_snapshots-D-Ledger : goal.ghosts-check_snapshots-D-Ledger
 ghosts-check_snapshots-D-Ledger g a =
