@@ -1,5 +1,5 @@
 -- Events of a journal stay as it grows.
-use Rattle.std.proofs.Common.{◌≡◌, ℕ, zero, suc, ◌+◌, ◌-◌, true, is_some, List, [], ◌∷◌, ◌++◌}
+use Rattle.std.proofs.Common.{◌≡◌, ℕ, zero, suc, true, is_some, List, [], ◌∷◌, ◌++◌}
 use Rattle.std.proofs.Common.{length, Option, None, Some, refl}
 use Rattle.std.specs.List.{slice_get}
 use Rattle.dp_epochs.specs.declared.event.Event.{Event}

@@ -1,5 +1,5 @@
 -- What an event places, as it is kept.
-use Rattle.std.proofs.Common.{◌≡◌, ℕ, ◌+◌, ◌-◌, ◌≤◌, true, false, is_some, unwrap_or, List, [], ◌∷◌}
+use Rattle.std.proofs.Common.{◌≡◌, ℕ, ◌+◌, ◌≤◌, true, false, is_some, unwrap_or, List, [], ◌∷◌}
 use Rattle.std.proofs.Common.{◌++◌, length, map, All, Option, None, Some, append_assoc, refl, sym}
 use Rattle.std.proofs.Common.{ap, subst, ◌∙◌, arith, length-append}
 use Rattle.std.specs.List.{slice_get}
@@ -12,7 +12,7 @@ use Rattle.dp_messages.specs.declared.message.Entry.{Entry}
 use Rattle.dp_acl.specs.Opening.{command_entry}
 use Rattle.dp_epochs.specs.declared.event.Event.{Event}
 use Rattle.dp_epochs.specs.declared.effect.Effect.{Effect}
-use Rattle.dp_epochs.specs.declared.effect.Effect.TheVariants.{Placed, Joined, Reopened}
+use Rattle.dp_epochs.specs.declared.effect.Effect.TheVariants.{Placed, Reopened}
 use Rattle.dp_epochs.specs.Effects.{entries_of, ended_after, live_after, IsEffect}
 use Rattle.dp_epochs.specs.State.{State, entry_of, epoch_of}
 use Rattle.dp_epochs.proofs.EffectLemmas.{entries-few}

@@ -1,3 +1,4 @@
 pub mod Marks
 pub mod Placed
 pub mod Sending
+pub mod Room

@@ -1,6 +1,6 @@
 -- The connections of a session, and what is noted beside them: who is present, by which event each
 -- joined, and which are quiet.
-use Rattle.std.specs.Prelude.{◌≡◌, ℕ, ◌+◌, ◌-◌, ◌==◌, Bool, true, false, [], if◌then◌else◌, Option}
+use Rattle.std.specs.Prelude.{◌≡◌, ℕ, ◌-◌, ◌==◌, Bool, true, false, [], if◌then◌else◌, Option}
 use Rattle.std.specs.Prelude.{None, Some, List, ◌∷◌, ◌++◌, length, slice_set, ◌<◌, ◌&&◌, count_by, ⊤}
 use Rattle.std.specs.List.{filter, range_with_len}
 use Rattle.dp_epochs.specs.declared.connection.Connection.{Connection}

@@ -1,13 +1,28 @@
-//! The connections of a session, and how an event is kept in them. It takes no memory.
+//! The connections of a session, and how an event is kept in them.
 
-ghost use Rattle.std.specs.Prelude.{◌≡◌, ◌-◌, ◌<◌, ◌^◌, length, vec_len, vec_capacity};
+ghost use Rattle.std.specs.Prelude.{◌≡◌, ◌-◌, ◌<◌, ◌^◌, [], false, length, OnOk};
+ghost use Rattle.std.specs.Prelude.{replicate, vec_len, vec_capacity};
 ghost use Rattle.dp_epochs.specs.Effects.{connections_at};
 ghost use Rattle.dp_epochs.specs.State.{connection_in, open_in, next_open};
 ghost use Rattle.dp_history.specs.Users.{mark};
 ghost use Rattle.dp_commit.specs.Marks.{IsThere, marks_after, opens_after, quiet_after, closed_in};
 ghost use Rattle.dp_commit.specs.Marks.{unmarked, flagged};
+ghost use Rattle.dp_commit.specs.Room.{SameRoster};
 
 use dp_epochs::{Connection, Effect, Ending, Place};
+use std::alloc::{AllocError, Global};
+
+/// Who is there: the connections of a session, and what is noted beside them.
+#[derive(Drop)]
+pub struct Roster {
+    pub connections: Vec<Connection>,
+    /// For each connection, whether it is flagged as quiet.
+    pub quiet: Vec<bool>,
+    /// For each id, whether a user who is present has it.
+    pub present: [bool; 256],
+    /// For each id, the event of the journal by which its user joined last.
+    pub opens: [u32; 256],
+}
 
 /// The connection of a number, if it was given out.
 pub fn connection(connections: &[Connection], conn: u32) -> Option<Connection>
@@ -52,78 +67,104 @@ pub fn is_flagged(quiet: &[bool], conn: u32) -> bool
     quiet.get(conn as usize - 1).copied().unwrap_or(false)
 }
 
-/// By the event of this number, adds the connection of the user who joins. Or it changes that of
-/// the one who takes up the epoch or leaves.
-pub fn note_connection(
-    connections: &mut Vec<Connection>,
-    quiet: &mut Vec<bool>,
-    present: &mut [bool; 256],
-    opens: &mut [u32; 256],
-    effect: Effect,
-    here: Place,
-    event: u32,
-)
-    requires connections { vec_len connections.old < vec_capacity connections.old }
-    requires quiet { vec_len quiet.old < vec_capacity quiet.old }
-    requires there { IsThere connections.old.items effect }
-    ensures connections { connections.new.items ≡ connections_at here connections.old.items effect }
-    ensures quiet { quiet.new.items ≡ quiet_after effect quiet.old.items }
-    ensures present { present.new ≡ marks_after effect present.old }
-    ensures opens { opens.new ≡ opens_after event effect opens.old }
-{
-    match effect {
-        Effect::TakesUp { conn, connection } => {
-            connections[conn as usize - 1] = Connection {
-                acknowledged: here.epoch,
+impl Roster {
+    /// No one.
+    pub fn new(alloc: Global) -> Roster
+        ensures connections { result.connections.items ≡ [] }
+        ensures quiet { result.quiet.items ≡ [] }
+        ensures present { result.present ≡ replicate 256 false }
+        ensures opens { result.opens ≡ replicate 256 0 }
+    {
+        Roster {
+            connections: Vec::new(alloc),
+            quiet: Vec::new(alloc),
+            present: [false; 256],
+            opens: [0; 256],
+        }
+    }
+
+    /// Makes the memory ready that any one event needs.
+    pub(crate) fn reserve(&mut self) -> Result<(), AllocError>
+        ensures same { SameRoster self.old self.new }
+        ensures connections_room { OnOk result (vec_len self.new.connections
+            < vec_capacity self.new.connections) }
+        ensures quiet_room { OnOk result (vec_len self.new.quiet < vec_capacity self.new.quiet) }
+    {
+        self.connections.reserve(1)?;
+        self.quiet.reserve(1)
+    }
+
+    /// By the event of this number, adds the connection of the user who joins. Or it changes that
+    /// of the one who takes up the epoch or leaves. It takes no memory.
+    pub fn note(&mut self, effect: Effect, here: Place, event: u32)
+        requires connections { vec_len self.old.connections < vec_capacity self.old.connections }
+        requires quiet { vec_len self.old.quiet < vec_capacity self.old.quiet }
+        requires there { IsThere self.old.connections.items effect }
+        ensures connections { self.new.connections.items
+            ≡ connections_at here self.old.connections.items effect }
+        ensures quiet { self.new.quiet.items ≡ quiet_after effect self.old.quiet.items }
+        ensures present { self.new.present ≡ marks_after effect self.old.present }
+        ensures opens { self.new.opens ≡ opens_after event effect self.old.opens }
+    {
+        match effect {
+            Effect::TakesUp { conn, connection } => {
+                self.connections[conn as usize - 1] = Connection {
+                    acknowledged: here.epoch,
+                    ..connection
+                };
+            }
+            Effect::Joined { user, .. } => {
+                self.connections.push_reserved(Connection {
+                    user,
+                    acknowledged: here.epoch,
+                    joined: here,
+                    ending: Ending::Running,
+                });
+                self.quiet.push_reserved(false);
+                self.present[user as usize] = true;
+                self.opens[user as usize] = event;
+            }
+            Effect::Left {
+                conn,
+                connection,
+                ..
+            } => {
+                self.connections[conn as usize - 1] = Connection {
+                    ending: Ending::Left(here),
+                    ..connection
+                };
+                self.present[connection.user as usize] = false;
+            }
+            _ => {}
+        }
+    }
+
+    /// Closes the connection of a number, if it is open, without a Leave. It takes no memory.
+    pub fn shut(&mut self, conn: u32)
+        ensures connections { self.new.connections.items
+            ≡ closed_in conn (open_in self.old.connections.items conn)
+            self.old.connections.items }
+        ensures quiet { self.new.quiet ≡ self.old.quiet }
+        ensures present { self.new.present
+            ≡ unmarked (open_in self.old.connections.items conn) self.old.present }
+        ensures opens { self.new.opens ≡ self.old.opens }
+    {
+        if let Some(connection) = open_connection(&self.connections, conn) {
+            self.connections[conn as usize - 1] = Connection {
+                ending: Ending::Shut,
                 ..connection
             };
+            self.present[connection.user as usize] = false;
         }
-        Effect::Joined { user, .. } => {
-            connections.push_reserved(Connection {
-                user,
-                acknowledged: here.epoch,
-                joined: here,
-                ending: Ending::Running,
-            });
-            quiet.push_reserved(false);
-            present[user as usize] = true;
-            opens[user as usize] = event;
-        }
-        Effect::Left {
-            conn,
-            connection,
-            ..
-        } => {
-            connections[conn as usize - 1] = Connection {
-                ending: Ending::Left(here),
-                ..connection
-            };
-            present[connection.user as usize] = false;
-        }
-        _ => {}
     }
-}
 
-/// Closes the connection of a number, if it is open, without a Leave.
-pub fn shut_connection(connections: &mut Vec<Connection>, present: &mut [bool; 256], conn: u32)
-    ensures connections { connections.new.items
-        ≡ closed_in conn (open_in connections.old.items conn) connections.old.items }
-    ensures present { present.new ≡ unmarked (open_in connections.old.items conn) present.old }
-{
-    if let Some(connection) = open_connection(connections, conn) {
-        connections[conn as usize - 1] = Connection {
-            ending: Ending::Shut,
-            ..connection
-        };
-        present[connection.user as usize] = false;
-    }
-}
-
-/// Flags the connection of a number as quiet, if it was given out.
-pub fn flag_connection(quiet: &mut Vec<bool>, conn: u32)
-    ensures { quiet.new.items ≡ flagged quiet.old.items conn }
-{
-    if conn > 0 && conn as usize <= quiet.len() {
-        quiet[conn as usize - 1] = true;
+    /// Flags the connection of a number as quiet, if it was given out. It takes no memory.
+    pub fn flag(&mut self, conn: u32)
+        ensures quiet { self.new.quiet.items ≡ flagged self.old.quiet.items conn }
+        ensures others { self.new ≡ record self.old { quiet = self.new.quiet } }
+    {
+        if conn > 0 && conn as usize <= self.quiet.len() {
+            self.quiet[conn as usize - 1] = true;
+        }
     }
 }

@@ -4,15 +4,14 @@
 
 mod connections;
 mod live;
+mod opening;
 mod room;
 mod sending;
 mod supply;
 
-pub use connections::{
-    connection, flag_connection, is_flagged, next_open, note_connection, open_connection,
-    shut_connection,
-};
-pub use live::{keep_frames, note_own, own_item, place};
+pub use connections::{Roster, connection, is_flagged, next_open, open_connection};
+pub use live::LiveEpoch;
+pub use opening::add_carried;
 pub use room::reserve;
-pub use sending::{note_reset, start_of};
-pub use supply::{Supply, boxed, filtered, owner_entry};
+pub use sending::Sending;
+pub use supply::{Supply, make_entries};

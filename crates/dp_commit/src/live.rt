@@ -1,7 +1,7 @@
-//! How an event is kept in the live history, with its rights and its frames. It takes no memory.
+//! The live epoch, and how an event is kept in it: in its history, with its rights and its frames.
 
 ghost use Rattle.std.specs.Prelude.{◌≡◌, ◌+◌, ◌-◌, ◌^◌, ◌<◌, ◌≤◌, ◌∷◌, ◌++◌, [], List, Some};
-ghost use Rattle.std.specs.Prelude.{length, option_to_list, vec_len, vec_capacity, All, map};
+ghost use Rattle.std.specs.Prelude.{length, option_to_list, vec_len, vec_capacity, All, map, OnOk};
 ghost use Rattle.dp_messages.specs.declared.message.Entry.{Entry as Piece};
 ghost use Rattle.dp_acl.specs.Table.{StandsFor};
 ghost use Rattle.dp_epochs.specs.declared.event.Event.{Event as Kept};
@@ -12,14 +12,25 @@ ghost use Rattle.dp_history.specs.Made.{AreMadeOf};
 ghost use Rattle.dp_commit.specs.Placed.{own_entries, own_items, SaysOwn, supplied, items_after};
 ghost use Rattle.dp_commit.specs.Placed.{unboxed, server_items, IsWithSupply, AreFramesWith};
 ghost use Rattle.dp_commit.specs.Placed.{epoch_with};
-ghost use Rattle.dp_commit.specs.Sending.{next_place};
+ghost use Rattle.dp_commit.specs.Room.{SameLive};
 
-use crate::sending::note_begun;
 use crate::supply::Supply;
 use dp_acl::Rights;
 use dp_epochs::{Effect, Event};
-use dp_history::{HistoryFrames, HistoryItem};
+use dp_history::{HistoryFrames, HistoryItem, Opening};
 use dp_messages::Entry;
+use std::alloc::{AllocError, Global};
+
+/// The live epoch: its history so far, and what was made of that.
+#[derive(Drop)]
+pub struct LiveEpoch {
+    pub number: u32,
+    pub history: Vec<HistoryItem>,
+    /// The frames that were made of the history.
+    pub frames: HistoryFrames,
+    /// The rights after the history.
+    pub rights: Rights,
+}
 
 /// Notes the entry of a message that the user says.
 fn note_said(rights: &mut Rights, event: Event, user: u8) -> Event
@@ -43,26 +54,23 @@ fn note_said(rights: &mut Rights, event: Event, user: u8) -> Event
     }
 }
 
-/// Notes the entry of what the event says, if that is placed, and from where on a reset keeps
-/// entries, if the event begins one.
-pub fn note_own(rights: &mut Rights, place: &mut Option<u32>, event: Event, effect: Effect) -> Event
+/// Notes the entry of what the event says, if that is placed.
+fn note_own(rights: &mut Rights, event: Event, effect: Effect) -> Event
     requires said { SaysOwn event effect }
     requires room { length (own_entries event effect) ≤ rights.old.room }
     ensures event { result ≡ event }
     ensures stands { (history : List Piece) → StandsFor rights.old history
         → StandsFor rights.new (history ++ own_entries event effect) }
     ensures room { rights.old.room ≤ rights.new.room + length (own_entries event effect) }
-    ensures place { place.new ≡ next_place event effect place.old }
 {
     match effect {
         Effect::Placed { connection, .. } => note_said(rights, event, connection.user),
-        Effect::Began { .. } => note_begun(place, event),
         _ => event,
     }
 }
 
 /// The entry of what the event of this number says, as it is kept, if that is placed.
-pub fn own_item(event: u32, effect: Effect) -> Option<HistoryItem>
+fn own_item(event: u32, effect: Effect) -> Option<HistoryItem>
     ensures { option_to_list result ≡ own_items event effect }
 {
     match effect {
@@ -92,7 +100,7 @@ fn place_server(live: &mut Vec<HistoryItem>, rights: &mut Rights, entry: Option<
 }
 
 /// Keeps the frames of the entries from a place on that go over, if an epoch opens.
-pub fn keep_frames(
+fn keep_frames(
     frames: &mut HistoryFrames,
     journal: &[Event],
     live: &[HistoryItem],
@@ -110,7 +118,7 @@ pub fn keep_frames(
 }
 
 /// Places the event's own entry, which was noted, and what was made ahead.
-pub fn place(
+fn place(
     epoch: &mut u32,
     live: &mut Vec<HistoryItem>,
     rights: &mut Rights,
@@ -140,5 +148,77 @@ pub fn place(
             *live = opening.live;
             *rights = Box::into_inner(opening.rights);
         }
+    }
+}
+
+impl LiveEpoch {
+    /// The first epoch, which opens so.
+    pub fn new(alloc: Global, opening: Opening) -> LiveEpoch
+        ensures number { result.number ≡ 0 }
+        ensures history { result.history.items ≡ opening.live.items }
+        ensures frames { (history : List Piece) → AreMadeOf result.frames history }
+        ensures rights { result.rights ≡ opening.rights.value }
+    {
+        LiveEpoch {
+            number: 0,
+            history: opening.live,
+            frames: HistoryFrames::new(alloc),
+            rights: Box::into_inner(opening.rights),
+        }
+    }
+
+    /// Makes the memory ready that any one event needs.
+    pub(crate) fn reserve(&mut self) -> Result<(), AllocError>
+        ensures same { SameLive self.old self.new }
+        ensures history_room { OnOk result (vec_len self.new.history + 2
+            ≤ vec_capacity self.new.history) }
+        ensures rights_room { OnOk result (2 ≤ self.new.rights.room) }
+    {
+        self.history.reserve(2)?;
+        self.rights.reserve(2)
+    }
+
+    /// Keeps the event of this number of the journal, with what was made ahead, and gives the event
+    /// back. If the next epoch opens, it keeps the frames of the entries from a place on. It takes
+    /// no memory.
+    pub fn keep(
+        &mut self,
+        journal: &[Event],
+        event: Event,
+        effect: Effect,
+        n: u32,
+        from: usize,
+        supply: Supply,
+    ) -> Event
+        requires next { self.old.number < 2 ^ 32 - 1 }
+        requires says { SaysOwn event effect }
+        requires said { All (IsIn journal.now) self.old.history.items }
+        requires made { AreMadeOf self.old.frames
+            (map (entry_in journal.now) self.old.history.items) }
+        requires history { vec_len self.old.history + length (own_entries event effect)
+            + length (supplied supply) ≤ vec_capacity self.old.history }
+        requires rights { length (own_entries event effect) + length (supplied supply)
+            ≤ self.old.rights.room }
+        ensures event { result ≡ event }
+        ensures number { self.new.number ≡ epoch_with supply self.old.number }
+        ensures history { self.new.history.items
+            ≡ items_after (own_items n effect) supply self.old.history.items }
+        ensures frames { AreFramesWith (map (entry_in journal.now) self.old.history.items) from
+            supply self.old.frames self.new.frames }
+        ensures stands { (history : List Piece) (next : List Piece)
+            → StandsFor self.old.rights history
+            → IsWithSupply journal.now supply (history ++ own_entries event effect) next
+            → StandsFor self.new.rights next }
+    {
+        keep_frames(&mut self.frames, journal, &self.history, from, &supply);
+        let event = note_own(&mut self.rights, event, effect);
+        place(
+            &mut self.number,
+            &mut self.history,
+            &mut self.rights,
+            own_item(n, effect),
+            supply,
+        );
+        event
     }
 }

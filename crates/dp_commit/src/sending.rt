@@ -1,27 +1,28 @@
-//! How an event is kept in a reset that is being sent. It takes no memory.
+//! A reset that is being sent, and how an event is kept in it.
 
-ghost use Rattle.std.specs.Prelude.{◌≡◌, ◌^◌, ◌<◌, ◌≤◌, [], vec_len, vec_capacity};
+ghost use Rattle.std.specs.Prelude.{◌≡◌, ◌^◌, ◌<◌, ◌≤◌, [], None, OnOk, vec_len, vec_capacity};
 ghost use Rattle.dp_epochs.specs.Effects.{own_message};
 ghost use Rattle.dp_epochs.specs.State.{place_in};
 ghost use Rattle.dp_commit.specs.Sending.{start_of, is_sender, owner_after, parts_after};
-ghost use Rattle.dp_commit.specs.Sending.{bytes_after};
+ghost use Rattle.dp_commit.specs.Sending.{bytes_after, next_place};
+ghost use Rattle.dp_commit.specs.Room.{SameSending};
 
 use dp_epochs::{Effect, Event};
 use dp_messages::Msg;
 use dp_msg_meta::Control;
+use std::alloc::{AllocError, Global};
 
-/// From where on a history, which ends at `end`, is kept by the reset that the connection sends, if
-/// any. The reset names the place.
-pub fn start_of(owner: Option<u32>, place: Option<u32>, end: usize) -> usize
-    ensures { result ≡ start_of owner place end }
-{
-    match owner {
-        Some(_) => match place {
-            Some(at) => at as usize,
-            None => end,
-        },
-        None => end,
-    }
+/// A reset that is being sent.
+#[derive(Drop)]
+pub struct Sending {
+    /// The connection that sends it, if one does.
+    pub owner: Option<u32>,
+    /// The place from which on it keeps entries, if it names one.
+    pub place: Option<u32>,
+    /// The events of the journal that say its parts.
+    pub parts: Vec<u32>,
+    /// How many bytes the payloads of the parts have.
+    pub part_bytes: u64,
 }
 
 /// Whether the connection is the one that sends the reset, if one does.
@@ -32,17 +33,6 @@ fn is_sender(conn: u32, owner: Option<u32>) -> bool
         Some(owner) => owner == conn,
         None => false,
     }
-}
-
-/// The reset has no parts, and is this connection's or no one's.
-fn restart(owner: &mut Option<u32>, parts: &mut Vec<u32>, part_bytes: &mut u64, sender: Option<u32>)
-    ensures owner { owner.new ≡ sender }
-    ensures parts { parts.new.items ≡ [] }
-    ensures bytes { part_bytes.new ≡ 0 }
-{
-    *owner = sender;
-    parts.clear();
-    *part_bytes = 0;
 }
 
 /// The place that the event names, if it begins a reset with one.
@@ -58,46 +48,85 @@ fn place_in(event: &Event) -> Option<u32>
     }
 }
 
-/// Notes from where on the reset keeps entries that the event begins.
-pub(crate) fn note_begun(place: &mut Option<u32>, event: Event) -> Event
-    ensures event { result ≡ event }
-    ensures place { place.new ≡ place_in (own_message event) }
-{
-    *place = place_in(&event);
-    event
-}
+impl Sending {
+    /// No reset.
+    pub fn new(alloc: Global) -> Sending
+        ensures owner { result.owner ≡ None }
+        ensures place { result.place ≡ None }
+        ensures parts { result.parts.items ≡ [] }
+        ensures bytes { result.part_bytes ≡ 0 }
+    {
+        Sending {
+            owner: None,
+            place: None,
+            parts: Vec::new(alloc),
+            part_bytes: 0,
+        }
+    }
 
-/// Changes the reset that is being sent, by the event of this number, which has a payload of this
-/// size.
-pub fn note_reset(
-    owner: &mut Option<u32>,
-    parts: &mut Vec<u32>,
-    part_bytes: &mut u64,
-    effect: Effect,
-    event: u32,
-    size: u64,
-)
-    requires parts { vec_len parts.old < vec_capacity parts.old }
-    requires within { part_bytes.old ≤ 2 ^ 28 }
-    requires size { size ≤ 2 ^ 30 }
-    ensures owner { owner.new ≡ owner_after effect owner.old }
-    ensures parts { parts.new.items ≡ parts_after event effect owner.old parts.old.items }
-    ensures bytes { part_bytes.new ≡ bytes_after size effect owner.old part_bytes.old }
-{
-    match effect {
-        Effect::Began { conn, .. } => restart(owner, parts, part_bytes, Some(conn)),
-        Effect::Added { .. } => {
-            parts.push_reserved(event);
-            *part_bytes += size;
+    /// Makes the memory ready that any one event needs.
+    pub(crate) fn reserve(&mut self) -> Result<(), AllocError>
+        ensures same { SameSending self.old self.new }
+        ensures room { OnOk result (vec_len self.new.parts < vec_capacity self.new.parts) }
+    {
+        self.parts.reserve(1)
+    }
+
+    /// From where on a history, which ends at `end`, is kept by the reset. The reset names the
+    /// place.
+    pub fn start(&self, end: usize) -> usize
+        ensures { result ≡ start_of self.now.owner self.now.place end }
+    {
+        match self.owner {
+            Some(_) => match self.place {
+                Some(at) => at as usize,
+                None => end,
+            },
+            None => end,
         }
-        Effect::Left { conn, .. } => {
-            if is_sender(conn, *owner) {
-                restart(owner, parts, part_bytes, None);
+    }
+
+    /// The reset has no parts, and is this connection's or no one's.
+    fn restart(&mut self, owner: Option<u32>)
+        ensures owner { self.new.owner ≡ owner }
+        ensures place { self.new.place ≡ self.old.place }
+        ensures parts { self.new.parts.items ≡ [] }
+        ensures bytes { self.new.part_bytes ≡ 0 }
+    {
+        self.owner = owner;
+        self.parts.clear();
+        self.part_bytes = 0;
+    }
+
+    /// Changes the reset by the event of this number, whose payload has this size. It takes no
+    /// memory.
+    pub fn note(&mut self, event: &Event, effect: Effect, n: u32, size: u64)
+        requires parts { vec_len self.old.parts < vec_capacity self.old.parts }
+        requires within { self.old.part_bytes ≤ 2 ^ 28 }
+        requires size { size ≤ 2 ^ 30 }
+        ensures owner { self.new.owner ≡ owner_after effect self.old.owner }
+        ensures place { self.new.place ≡ next_place event.now effect self.old.place }
+        ensures parts { self.new.parts.items
+            ≡ parts_after n effect self.old.owner self.old.parts.items }
+        ensures bytes { self.new.part_bytes
+            ≡ bytes_after size effect self.old.owner self.old.part_bytes }
+    {
+        match effect {
+            Effect::Began { conn, .. } => {
+                self.restart(Some(conn));
+                self.place = place_in(event);
             }
+            Effect::Added { .. } => {
+                self.parts.push_reserved(n);
+                self.part_bytes += size;
+            }
+            Effect::Left { conn, .. } => {
+                if is_sender(conn, self.owner) {
+                    self.restart(None);
+                }
+            }
+            Effect::Dropped { .. } | Effect::Reopened { .. } => self.restart(None),
+            _ => {}
         }
-        Effect::Dropped { .. } | Effect::Reopened { .. } => {
-            restart(owner, parts, part_bytes, None);
-        }
-        _ => {}
     }
 }

@@ -1,13 +1,14 @@
 //! What an event places beside what it says, made before it is kept.
 
-ghost use Rattle.std.specs.Prelude.{◌≡◌, Some, option_to_list, IfOk};
-ghost use Rattle.dp_epochs.specs.Effects.{own_message};
-ghost use Rattle.dp_epochs.specs.State.{filtered_entry, next_owner};
+ghost use Rattle.std.specs.Prelude.{◌≡◌, ◌++◌, List, Some, false, option_to_list, IfOk};
+ghost use Rattle.dp_epochs.specs.Effects.{own_message, entries_of, IsEffect};
+ghost use Rattle.dp_epochs.specs.State.{filtered_entry, next_owner, State};
+ghost use Rattle.dp_epochs.specs.declared.event.Event.{Event as Kept};
 ghost use Rattle.dp_history.specs.Items.{IsSay};
-ghost use Rattle.dp_commit.specs.Placed.{unboxed};
+ghost use Rattle.dp_commit.specs.Placed.{IsSupply, opens_epoch, own_entries, unboxed};
 
-use dp_epochs::Event;
-use dp_history::Opening;
+use dp_epochs::{Effect, Event};
+use dp_history::{Opening, join_entry};
 use dp_messages::{Entry, Msg};
 use dp_msg_meta::{Ids, Meta};
 use std::alloc::{AllocError, Global};
@@ -25,7 +26,7 @@ pub enum Supply {
 }
 
 /// The entry in place of what the event says: of what kind that was.
-pub fn filtered(event: &Event, user: u8) -> Entry
+fn filtered(event: &Event, user: u8) -> Entry
     requires { IsSay (Some event.now) }
     ensures { result ≡ filtered_entry user (own_message event.now) }
 {
@@ -39,7 +40,7 @@ pub fn filtered(event: &Event, user: u8) -> Entry
 }
 
 /// The entry, if there is one, in a box.
-pub fn boxed(alloc: Global, entry: Option<Entry>) -> Result<Option<Box<Entry>>, AllocError>
+fn boxed(alloc: Global, entry: Option<Entry>) -> Result<Option<Box<Entry>>, AllocError>
     ensures { IfOk result (λ found. unboxed found ≡ option_to_list entry) }
 {
     Ok(match entry {
@@ -49,7 +50,7 @@ pub fn boxed(alloc: Global, entry: Option<Entry>) -> Result<Option<Box<Entry>>, 
 }
 
 /// The entry that makes the user the only operator, if there is one, in a box.
-pub fn owner_entry(alloc: Global, user: Option<u8>) -> Result<Option<Box<Entry>>, AllocError>
+fn owner_entry(alloc: Global, user: Option<u8>) -> Result<Option<Box<Entry>>, AllocError>
     ensures { IfOk result (λ entry. unboxed entry ≡ next_owner user) }
 {
     let Some(user) = user else {
@@ -63,4 +64,63 @@ pub fn owner_entry(alloc: Global, user: Option<u8>) -> Result<Option<Box<Entry>>
         }),
     };
     boxed(alloc, Some(entry))
+}
+
+/// The entries that the event, which opens no epoch, places beside what it says: this one, and that
+/// which makes a user the only operator, if there is one.
+fn entries(
+    alloc: Global,
+    event: &Event,
+    effect: Effect,
+    first: Option<Box<Entry>>,
+    owner: Option<u8>,
+) -> Result<Supply, AllocError>
+    requires stays { opens_epoch effect ≡ false }
+    requires whole { own_entries event.now effect ++ (unboxed first ++ next_owner owner)
+        ≡ entries_of event.now effect }
+    ensures { IfOk result (λ supply. (journal : List Kept) (s : State)
+        → IsSupply journal s event.now effect supply) }
+{
+    match owner_entry(alloc, owner) {
+        Ok(second) => Ok(Supply::Entries { first, second }),
+        Err(error) => {
+            drop(first);
+            Err(error)
+        }
+    }
+}
+
+/// What the event, which does this and opens no epoch, places beside what it says.
+pub fn make_entries(alloc: Global, event: &Event, effect: Effect) -> Result<Supply, AllocError>
+    requires cause { (s : State) × IsEffect s event.now effect }
+    requires stays { opens_epoch effect ≡ false }
+    ensures { IfOk result (λ supply. (journal : List Kept) (s : State)
+        → IsSupply journal s event.now effect supply) }
+{
+    match effect {
+        Effect::Filtered { connection, .. } | Effect::Dropped { connection, .. } => {
+            let first = boxed(alloc, Some(filtered(event, connection.user)))?;
+            entries(alloc, event, effect, first, None)
+        }
+        Effect::Joined { user, next } => {
+            let first = boxed(alloc, join_entry(alloc, event, user)?)?;
+            entries(alloc, event, effect, first, next)
+        }
+        Effect::Left {
+            connection,
+            next,
+            ..
+        } => {
+            let leave = Entry {
+                user: connection.user,
+                msg: Msg::Meta(Meta::Leave),
+            };
+            let first = boxed(alloc, Some(leave))?;
+            entries(alloc, event, effect, first, next)
+        }
+        _ => Ok(Supply::Entries {
+            first: None,
+            second: None,
+        }),
+    }
 }

@@ -11,7 +11,7 @@ use Rattle.dp_tables.specs.Inside.{is_ready, ledger_of, AreTables}
 use Rattle.dp_tables.specs.Ready.{MayKeep}
 
 -- there are no more connections than events
-pub connections-fit : (t : Inside) → AreTables t → length t.connections.items ≤ event_limit
+pub connections-fit : (t : Inside) → AreTables t → length t.roster.connections.items ≤ event_limit
 connections-fit t are = omega (arith, ap length are.of.table, are.of.opened, are.events)
 
 -- the row is within the limit
@@ -33,18 +33,20 @@ row-fits t e effect supply row_length are may =
 -- parts
 pub ready-lists : (t : Inside) → is_ready t ≡ true
     → (vec_len t.journal < vec_capacity t.journal)
-    × (vec_len t.connections < vec_capacity t.connections)
-    × (vec_len t.quiet < vec_capacity t.quiet)
-    × (vec_len t.parts < vec_capacity t.parts)
+    × (vec_len t.roster.connections < vec_capacity t.roster.connections)
+    × (vec_len t.roster.quiet < vec_capacity t.roster.quiet)
+    × (vec_len t.sending.parts < vec_capacity t.sending.parts)
 ready-lists t ready =
-    let live = (and_parts _ (nat_le 2 t.rights.room) ready).0 in
-    let parts = (and_parts _ (nat_le (vec_len t.live + 2) (vec_capacity t.live)) live).0 in
-    let p = and_parts _ (nat_lt (vec_len t.parts) (vec_capacity t.parts)) parts in
-    let q = and_parts _ (nat_lt (vec_len t.quiet) (vec_capacity t.quiet)) p.0 in
-    let c = and_parts _ (nat_lt (vec_len t.connections) (vec_capacity t.connections)) q.0 in
+    let live = (and_parts _ (nat_le 2 t.live.rights.room) ready).0 in
+    let history = t.live.history in
+    let connections = t.roster.connections in
+    let parts = (and_parts _ (nat_le (vec_len history + 2) (vec_capacity history)) live).0 in
+    let p = and_parts _ (nat_lt (vec_len t.sending.parts) (vec_capacity t.sending.parts)) parts in
+    let q = and_parts _ (nat_lt (vec_len t.roster.quiet) (vec_capacity t.roster.quiet)) p.0 in
+    let c = and_parts _ (nat_lt (vec_len connections) (vec_capacity connections)) q.0 in
     let s = and_parts _ (nat_lt (vec_len t.shut) (vec_capacity t.shut)) c.0 in (
       ltb-true (vec_len t.journal) (vec_capacity t.journal) s.0,
-      ltb-true (vec_len t.connections) (vec_capacity t.connections) c.1,
-      ltb-true (vec_len t.quiet) (vec_capacity t.quiet) q.1,
-      ltb-true (vec_len t.parts) (vec_capacity t.parts) p.1,
+      ltb-true (vec_len t.roster.connections) (vec_capacity t.roster.connections) c.1,
+      ltb-true (vec_len t.roster.quiet) (vec_capacity t.roster.quiet) q.1,
+      ltb-true (vec_len t.sending.parts) (vec_capacity t.sending.parts) p.1,
     )

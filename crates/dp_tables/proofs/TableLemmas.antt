@@ -293,12 +293,13 @@ no-marks n user =
 
 -- the tables of a session to which nothing has come
 pub tables-first : (t : Inside) (begun : Opening) → Holds [] begun first_state.live
-    → t.journal.items ≡ [] → t.shut.items ≡ [] → t.connections.items ≡ [] → t.quiet.items ≡ []
-    → t.live.items ≡ begun.live.items → t.row_bytes ≡ 0
-    → t.rights ≡ begun.rights.value → t.present ≡ replicate 256 false → t.epoch ≡ 0
-    → t.opens ≡ replicate 256 0 → t.owner ≡ None → t.place ≡ None → t.parts.items ≡ []
-    → t.part_bytes ≡ 0
-    → ((history : List Entry) → AreMadeOf t.frames history) → AreTables t
+    → t.journal.items ≡ [] → t.shut.items ≡ [] → t.roster.connections.items ≡ []
+    → t.roster.quiet.items ≡ []
+    → t.live.history.items ≡ begun.live.items → t.row_bytes ≡ 0
+    → t.live.rights ≡ begun.rights.value → t.roster.present ≡ replicate 256 false
+    → t.live.number ≡ 0 → t.roster.opens ≡ replicate 256 0 → t.sending.owner ≡ None
+    → t.sending.place ≡ None → t.sending.parts.items ≡ [] → t.sending.part_bytes ≡ 0
+    → ((history : List Entry) → AreMadeOf t.live.frames history) → AreTables t
 tables-first t begun holds ej es ec eq el eb er ep ee eo eu eh ek ez made =
     let first : Seen = record {
       journal = [];
@@ -306,8 +307,8 @@ tables-first t begun holds ej es ec eq el eb er ep ee eo eu eh ek ez made =
       epoch = 0;
       live = begun.live.items;
       rights = begun.rights.value;
-      present = t.present;
-      opens = t.opens;
+      present = t.roster.present;
+      opens = t.roster.opens;
       owner = None;
       place = None;
       parts = [];
@@ -373,14 +374,16 @@ ledger-is a b journal shut quiet room =
 -- ---- an event was kept
 
 -- if memory is ready, there is room for two entries
-pub ready-live : (t : Inside) → is_ready t ≡ true → vec_len t.live + 2 ≤ vec_capacity t.live
+pub ready-live : (t : Inside) → is_ready t ≡ true
+    → vec_len t.live.history + 2 ≤ vec_capacity t.live.history
 ready-live t ready =
-    let parts = and_parts _ (nat_le 2 t.rights.room) ready in
-    leb-true (vec_len t.live + 2) (vec_capacity t.live)
-    (and_parts _ (nat_le (vec_len t.live + 2) (vec_capacity t.live)) parts.0).1
+    let parts = and_parts _ (nat_le 2 t.live.rights.room) ready in
+    leb-true (vec_len t.live.history + 2) (vec_capacity t.live.history)
+    (and_parts _ (nat_le (vec_len t.live.history + 2) (vec_capacity t.live.history)) parts.0).1
 
-pub ready-rights : (t : Inside) → is_ready t ≡ true → 2 ≤ t.rights.room
-ready-rights t ready = leb-true 2 t.rights.room (and_parts _ (nat_le 2 t.rights.room) ready).1
+pub ready-rights : (t : Inside) → is_ready t ≡ true → 2 ≤ t.live.rights.room
+ready-rights t ready =
+    leb-true 2 t.live.rights.room (and_parts _ (nat_le 2 t.live.rights.room) ready).1
 
 -- a past with these events and closings
 past_in : SessionLog → Past
@@ -402,7 +405,7 @@ last-history (history ∷ ended) live = last-history ended live
 -- the live history is short, and there are few epochs
 pub live-fits : ((past : Past) (epoch : ℕ) → length (history_of (state_of past) epoch)
     ≤ 2 * length past.journal + opening_limit) → (t : Inside) → AreTables t
-    → length t.live.items ≤ 2 * event_limit + opening_limit
+    → length t.live.history.items ≤ 2 * event_limit + opening_limit
 unfolding past_in
 live-fits short t are =
     let past = past_in (ledger_of t) in
@@ -416,7 +419,7 @@ live-fits short t are =
     )
 
 pub epoch-fits : ((past : Past) → epoch_of (state_of past) ≤ length past.journal) → (t : Inside)
-    → AreTables t → t.epoch ≤ event_limit
+    → AreTables t → t.live.number ≤ event_limit
 unfolding past_in
 epoch-fits few t are =
     omega (arith, few (past_in (ledger_of t)), are.of.epoch, are.events)
@@ -427,23 +430,23 @@ pub record IsKept (old : Inside) (e : Event) (effect : Effect) (supply : Supply)
   pub journal : new.journal.items ≡ old.journal.items ++ e ∷ []
   pub bytes : new.row_bytes ≡ old.row_bytes + row_length
   pub shut : new.shut.items ≡ old.shut.items
-  pub connections : new.connections.items
-      ≡ connections_at (here (state_in (ledger_of old))) old.connections.items effect
-  pub quiet : new.quiet.items ≡ quiet_after effect old.quiet.items
-  pub epoch : new.epoch ≡ epoch_with supply old.epoch
-  pub live : new.live.items
-      ≡ items_after (own_items (length old.journal.items) effect) supply old.live.items
-  pub stands : StandsFor new.rights
+  pub connections : new.roster.connections.items
+      ≡ connections_at (here (state_in (ledger_of old))) old.roster.connections.items effect
+  pub quiet : new.roster.quiet.items ≡ quiet_after effect old.roster.quiet.items
+  pub epoch : new.live.number ≡ epoch_with supply old.live.number
+  pub live : new.live.history.items
+      ≡ items_after (own_items (length old.journal.items) effect) supply old.live.history.items
+  pub stands : StandsFor new.live.rights
       (live_after (state_in (ledger_of old)) e effect)
-  pub present : new.present ≡ marks_after effect old.present
-  pub opens : new.opens ≡ opens_after (length old.journal.items) effect old.opens
-  pub owner : new.owner ≡ owner_after effect old.owner
-  pub place : new.place ≡ next_place e effect old.place
-  pub parts : new.parts.items
-      ≡ parts_after (length old.journal.items) effect old.owner old.parts.items
-  pub part_bytes : new.part_bytes
-      ≡ bytes_after (row_length - 6) effect old.owner old.part_bytes
-  pub frames : AreMadeOf new.frames (live_after (state_in (ledger_of old)) e effect)
+  pub present : new.roster.present ≡ marks_after effect old.roster.present
+  pub opens : new.roster.opens ≡ opens_after (length old.journal.items) effect old.roster.opens
+  pub owner : new.sending.owner ≡ owner_after effect old.sending.owner
+  pub place : new.sending.place ≡ next_place e effect old.sending.place
+  pub parts : new.sending.parts.items
+      ≡ parts_after (length old.journal.items) effect old.sending.owner old.sending.parts.items
+  pub part_bytes : new.sending.part_bytes
+      ≡ bytes_after (row_length - 6) effect old.sending.owner old.sending.part_bytes
+  pub frames : AreMadeOf new.live.frames (live_after (state_in (ledger_of old)) e effect)
 
 pub row-length : (conn : ℕ) (m : Msg) → length (row_of (event.Say conn m)) ≡ 6 + length
     (payload_of m)
@@ -475,22 +478,25 @@ tables-kept leads joins made_law old new e effect supply row_length are is keeps
     × (nat_le (row_bytes old.journal.items + length (row_of e)) byte_limit ≡ true) = and_parts _
     _ is.room in
     let more = length-append old.journal.items (e ∷ []) in
-    let table : connections_at (here s) old.connections.items effect ≡ connections_after s effect =
+    let table : connections_at (here s) old.roster.connections.items effect
+    ≡ connections_after s effect =
     ap (λ cs. connections_at (here s) cs effect) are.of.table in
-    let connections : new.connections.items ≡ connections_after s effect =
+    let connections : new.roster.connections.items ≡ connections_after s effect =
     keeps.connections ∙ table in
     let after : Seen = record {
       journal = old.journal.items ++ e ∷ [];
       connections = connections_after s effect;
-      epoch = epoch_with supply old.epoch;
-      live = items_after (own_items (length old.journal.items) effect) supply old.live.items;
-      rights = new.rights;
-      present = marks_after effect old.present;
-      opens = opens_after (length old.journal.items) effect old.opens;
-      owner = owner_after effect old.owner;
-      place = next_place e effect old.place;
-      parts = parts_after (length old.journal.items) effect old.owner old.parts.items;
-      part_bytes = bytes_after (row_length - 6) effect old.owner old.part_bytes;
+      epoch = epoch_with supply old.live.number;
+      live = items_after (own_items (length old.journal.items) effect) supply
+          old.live.history.items;
+      rights = new.live.rights;
+      present = marks_after effect old.roster.present;
+      opens = opens_after (length old.journal.items) effect old.roster.opens;
+      owner = owner_after effect old.sending.owner;
+      place = next_place e effect old.sending.place;
+      parts = parts_after (length old.journal.items) effect old.sending.owner
+          old.sending.parts.items;
+      part_bytes = bytes_after (row_length - 6) effect old.sending.owner old.sending.part_bytes;
     }
     in
     let seen_is : seen new ≡ after = cc in
@@ -501,7 +507,7 @@ tables-kept leads joins made_law old new e effect supply row_length are is keeps
     record {
       of = subst (λ x. AreOf x (seen new)) (sym state_is) (subst (AreOf (after_event s e))
           (sym seen_is) (AreOf-kept s (seen old) are.of (joins s) made_law e effect supply
-          new.rights (row_length - 6) is.does is.places keeps.stands
+          new.live.rights (row_length - 6) is.does is.places keeps.stands
           (size-is e row_length row)));
       before = subst (λ x. All (λ (y : ShutAt). y.n ≤ length new.journal.items) x) (sym keeps.shut)
           (λ k d lt. omega (arith, are.before k d lt, more, ap length keeps.journal));
@@ -523,9 +529,10 @@ tables-kept leads joins made_law old new e effect supply row_length are is keeps
         row,
       );
       flags = ap length keeps.quiet
-          ∙ flags-after (here s) effect old.quiet.items old.connections.items are.flags
+          ∙ flags-after (here s) effect old.roster.quiet.items old.roster.connections.items
+          are.flags
           ∙ sym (ap length keeps.connections);
-      frames = subst (AreMadeOf new.frames)
+      frames = subst (AreMadeOf new.live.frames)
           (sym (ap (λ a. a.state.live) (made_law s e effect is.does))
           ∙ sym (ap (λ x. x.live) state_is)) keeps.frames;
     }
@@ -538,19 +545,20 @@ pub record IsLeftOut (old : Inside) (conn : ℕ) (new : Inside) : Type 0 where
   pub bytes : new.row_bytes ≡ old.row_bytes
   pub shut : new.shut.items ≡ old.shut.items ++ record { conn = conn; n = length old.journal.items }
       ∷ []
-  pub connections : new.connections.items
-      ≡ closed_in conn (open_in old.connections.items conn) old.connections.items
-  pub quiet : new.quiet.items ≡ old.quiet.items
-  pub epoch : new.epoch ≡ old.epoch
-  pub live : new.live.items ≡ old.live.items
-  pub rights : new.rights ≡ old.rights
-  pub present : new.present ≡ unmarked (open_in old.connections.items conn) old.present
-  pub opens : new.opens ≡ old.opens
-  pub owner : new.owner ≡ old.owner
-  pub place : new.place ≡ old.place
-  pub parts : new.parts.items ≡ old.parts.items
-  pub part_bytes : new.part_bytes ≡ old.part_bytes
-  pub frames : new.frames ≡ old.frames
+  pub connections : new.roster.connections.items
+      ≡ closed_in conn (open_in old.roster.connections.items conn) old.roster.connections.items
+  pub quiet : new.roster.quiet.items ≡ old.roster.quiet.items
+  pub epoch : new.live.number ≡ old.live.number
+  pub live : new.live.history.items ≡ old.live.history.items
+  pub rights : new.live.rights ≡ old.live.rights
+  pub present : new.roster.present
+      ≡ unmarked (open_in old.roster.connections.items conn) old.roster.present
+  pub opens : new.roster.opens ≡ old.roster.opens
+  pub owner : new.sending.owner ≡ old.sending.owner
+  pub place : new.sending.place ≡ old.sending.place
+  pub parts : new.sending.parts.items ≡ old.sending.parts.items
+  pub part_bytes : new.sending.part_bytes ≡ old.sending.part_bytes
+  pub frames : new.live.frames ≡ old.live.frames
 
 live-shut : (s : State) (conn : ℕ) (o : Option Connection)
     → (option_map_or (λ c. with_connection s conn (record c { ending = ending.Shut })) o s).live
@@ -568,17 +576,17 @@ tables-left leads old new conn are left =
     let o = open_connection s conn in
     let shut_now : List ShutAt = old.shut.items
     ++ record { conn = conn; n = length old.journal.items } ∷ [] in
-    let found : open_in old.connections.items conn ≡ o =
+    let found : open_in old.roster.connections.items conn ≡ o =
     ap (λ cs. open_in cs conn) are.of.table in
-    let connections : new.connections.items ≡ closed_in conn o s.connections =
+    let connections : new.roster.connections.items ≡ closed_in conn o s.connections =
     left.connections
-    ∙ ap (λ x. closed_in conn x old.connections.items) found
+    ∙ ap (λ x. closed_in conn x old.roster.connections.items) found
     ∙ ap (closed_in conn o) are.of.table in
-    let present : new.present ≡ unmarked o old.present =
-    left.present ∙ ap (λ x. unmarked x old.present) found in
+    let present : new.roster.present ≡ unmarked o old.roster.present =
+    left.present ∙ ap (λ x. unmarked x old.roster.present) found in
     let seen_is : seen new ≡ record (seen old) {
       connections = closed_in conn o s.connections;
-      present = unmarked o old.present;
+      present = unmarked o old.roster.present;
     } = cc in
     let state_is : state_in (ledger_of new) ≡ after_shut s conn =
     ap (λ j. state_after j new.shut.items) left.journal
@@ -597,8 +605,9 @@ tables-left leads old new conn are left =
       within = omega (arith, left.bytes, are.within);
       flags = ap length left.quiet ∙ are.flags
           ∙ sym (ap length left.connections
-          ∙ length-closed conn (open_in old.connections.items conn) old.connections.items);
+          ∙ length-closed conn (open_in old.roster.connections.items conn)
+          old.roster.connections.items);
       frames = subst (λ x. AreMadeOf x (state_in (ledger_of new)).live) (sym left.frames)
-          (subst (AreMadeOf old.frames) (sym (ap (λ x. x.live) state_is ∙ live-shut s conn o))
+          (subst (AreMadeOf old.live.frames) (sym (ap (λ x. x.live) state_is ∙ live-shut s conn o))
           are.frames);
     }

@@ -13,18 +13,18 @@ abbrev pub is_ready : Inside → Bool
 is_ready t =
     nat_lt (vec_len t.journal) (vec_capacity t.journal)
     && nat_lt (vec_len t.shut) (vec_capacity t.shut)
-    && nat_lt (vec_len t.connections) (vec_capacity t.connections)
-    && nat_lt (vec_len t.quiet) (vec_capacity t.quiet)
-    && nat_lt (vec_len t.parts) (vec_capacity t.parts)
-    && nat_le (vec_len t.live + 2) (vec_capacity t.live)
-    && nat_le 2 t.rights.room
+    && nat_lt (vec_len t.roster.connections) (vec_capacity t.roster.connections)
+    && nat_lt (vec_len t.roster.quiet) (vec_capacity t.roster.quiet)
+    && nat_lt (vec_len t.sending.parts) (vec_capacity t.sending.parts)
+    && nat_le (vec_len t.live.history + 2) (vec_capacity t.live.history)
+    && nat_le 2 t.live.rights.room
 
 -- what contracts see
 abbrev pub ledger_of : Inside → SessionLog
 ledger_of t = record {
   journal = t.journal.items;
   shut = t.shut.items;
-  quiet = quiet_of t.quiet.items;
+  quiet = quiet_of t.roster.quiet.items;
   room = is_ready t;
 }
 
@@ -32,16 +32,16 @@ ledger_of t = record {
 abbrev pub seen : Inside → Seen
 seen t = record {
   journal = t.journal.items;
-  connections = t.connections.items;
-  epoch = t.epoch;
-  live = t.live.items;
-  rights = t.rights;
-  present = t.present;
-  opens = t.opens;
-  owner = t.owner;
-  place = t.place;
-  parts = t.parts.items;
-  part_bytes = t.part_bytes;
+  connections = t.roster.connections.items;
+  epoch = t.live.number;
+  live = t.live.history.items;
+  rights = t.live.rights;
+  present = t.roster.present;
+  opens = t.roster.opens;
+  owner = t.sending.owner;
+  place = t.sending.place;
+  parts = t.sending.parts.items;
+  part_bytes = t.sending.part_bytes;
 }
 
 -- the tables are those of the state to which the ledger leads, and lie within the limits
@@ -51,5 +51,5 @@ pub record AreTables (t : Inside) : Type 0 where
   pub bytes : t.row_bytes ≡ row_bytes t.journal.items
   pub events : length t.journal.items ≤ event_limit
   pub within : t.row_bytes ≤ byte_limit
-  pub flags : length t.quiet.items ≡ length t.connections.items
-  pub frames : AreMadeOf t.frames (state_in (ledger_of t)).live
+  pub flags : length t.roster.quiet.items ≡ length t.roster.connections.items
+  pub frames : AreMadeOf t.live.frames (state_in (ledger_of t)).live

@@ -1,17 +1,15 @@
 //! How an event is kept, or left out. It takes no memory.
 
 ghost use Rattle.std.specs.Prelude.{◌≡◌, ◌∷◌, ◌++◌, [], length, true};
-ghost use Rattle.dp_epochs.specs.State.{acted};
+ghost use Rattle.dp_epochs.specs.State.{acted, here};
+ghost use Rattle.dp_epochs.specs.Effects.{answer_at};
 ghost use Rattle.dp_epochs.specs.Past.{shut_with, quiet_with};
 ghost use Rattle.dp_tables.specs.SessionLog.{state_in};
 ghost use Rattle.dp_tables.specs.Ready.{MayKeep, IsReady};
 
 use crate::ready::Ready;
 use crate::tables::Tables;
-use dp_commit::{
-    Supply, flag_connection, keep_frames, note_connection, note_own, note_reset, own_item, place,
-    shut_connection, start_of,
-};
+use dp_commit::Supply;
 use dp_epochs::{
     Effect, Event, Reply, ShutAt, effects_are_made, epochs_are_few, joins_stay, steps_lead_on,
 };
@@ -37,6 +35,42 @@ impl Tables {
         self.keep_made(event, effect, supply, row_length)
     }
 
+    /// What an event that does this is answered.
+    fn reply(&self, effect: Effect) -> Reply
+        ensures { result ≡ answer_at (here (state_in self.now))
+            (length (state_in self.now).connections) effect }
+    {
+        epochs_are_few();
+        effect.reply(self.here(), self.roster.connections.len() as u32)
+    }
+
+    /// Keeps an event that does this, with what was made ahead. Its row has this length. It takes
+    /// no memory.
+    fn take(&mut self, event: Event, effect: Effect, supply: Supply, row_length: u64)
+        requires room { self.old.room ≡ true }
+        requires made { MayKeep self.old event effect supply row_length }
+        ensures { self.new ≡ record self.old {
+          journal = self.old.journal ++ event ∷ [];
+          room = self.new.room;
+        } }
+    {
+        steps_lead_on();
+        joins_stay();
+        epochs_are_few();
+        effects_are_made();
+        let here = self.here();
+        let n = self.journal.len() as u32;
+        let from = self.sending.start(self.live.history.len());
+        let event = self
+            .live
+            .keep(&self.journal, event, effect, n, from, supply);
+        self.row_bytes += row_length;
+        self.sending
+            .note(&event, effect, n, row_length.saturating_sub(6));
+        self.roster.note(effect, here, n);
+        self.journal.push_reserved(event);
+    }
+
     /// Keeps an event that does this, with what was made ahead, and gives its answer. Its row has
     /// this length. It takes no memory.
     pub(crate) fn keep_made(
@@ -54,42 +88,9 @@ impl Tables {
         } }
         ensures reply { result ≡ (acted (state_in self.old) event).reply }
     {
-        steps_lead_on();
-        joins_stay();
-        epochs_are_few();
         effects_are_made();
-        let here = self.here();
-        let reply = effect.reply(here, self.connections.len() as u32);
-        let n = self.journal.len() as u32;
-        let from = start_of(self.owner, self.place, self.live.len());
-        keep_frames(&mut self.frames, &self.journal, &self.live, from, &supply);
-        self.row_bytes += row_length;
-        note_reset(
-            &mut self.owner,
-            &mut self.parts,
-            &mut self.part_bytes,
-            effect,
-            n,
-            row_length.saturating_sub(6),
-        );
-        note_connection(
-            &mut self.connections,
-            &mut self.quiet,
-            &mut self.present,
-            &mut self.opens,
-            effect,
-            here,
-            n,
-        );
-        let event = note_own(&mut self.rights, &mut self.place, event, effect);
-        place(
-            &mut self.epoch,
-            &mut self.live,
-            &mut self.rights,
-            own_item(n, effect),
-            supply,
-        );
-        self.journal.push_reserved(event);
+        let reply = self.reply(effect);
+        self.take(event, effect, supply, row_length);
         reply
     }
 
@@ -104,7 +105,7 @@ impl Tables {
         steps_lead_on();
         let n = self.journal.len() as u64;
         self.shut.push_reserved(ShutAt { conn, n });
-        shut_connection(&mut self.connections, &mut self.present, conn);
+        self.roster.shut(conn);
     }
 
     /// Leaves an event out: a Close closes its connection without a Leave. It takes no memory.
@@ -128,6 +129,6 @@ impl Tables {
           room = self.new.room;
         } }
     {
-        flag_connection(&mut self.quiet, conn);
+        self.roster.flag(conn);
     }
 }

@@ -1,24 +1,31 @@
 //! What an event does to a session, and what is to be kept of it, with the memory that it needs.
 
-ghost use Rattle.std.specs.Prelude.{◌≡◌, ◌++◌, ℕ, List, Bool, false, IfOk, MatchOption, length};
+ghost use Rattle.std.specs.Prelude.{◌≡◌, ℕ, List, Bool, false, IfOk, MatchOption, length};
 ghost use Rattle.dp_messages.specs.Messages.{payload_of};
-ghost use Rattle.dp_epochs.specs.State.{is_name, decided, heard, has_acknowledged, next_owner};
-ghost use Rattle.dp_epochs.specs.Effects.{IsEffect, entries_of};
+ghost use Rattle.dp_epochs.specs.State.{is_name, decided, heard, has_acknowledged};
+ghost use Rattle.dp_epochs.specs.Effects.{IsEffect};
 ghost use Rattle.dp_epochs.specs.Rows.{has_room, row_of};
-ghost use Rattle.dp_commit.specs.Placed.{IsSupply, opens_epoch, own_entries, unboxed};
+ghost use Rattle.dp_commit.specs.Placed.{IsSupply};
 ghost use Rattle.dp_tables.specs.SessionLog.{state_in};
 ghost use Rattle.dp_tables.specs.Ready.{IsReady};
 
 use crate::ready::Ready;
 use crate::tables::Tables;
 use dp_acl::operators_stay;
-use dp_commit::{Supply, boxed, filtered, owner_entry};
+use dp_commit::{Supply, make_entries};
 use dp_epochs::{Connection, Decision, Effect, Event, Reply, decisions_have_effects, make_row};
-use dp_history::{first_operator, free_id, join_entry, name_text, next_operator};
+use dp_history::{first_operator, free_id, name_text, next_operator};
 use dp_keeper::{Row, RowBytes};
-use dp_messages::{Entry, Msg};
-use dp_msg_meta::{Control, Meta};
-use std::alloc::AllocError;
+use dp_messages::Msg;
+use dp_msg_meta::Control;
+use std::alloc::{AllocError, Global};
+
+/// Whether these bytes are a name.
+fn is_named(alloc: Global, name: &[u8]) -> Result<bool, AllocError>
+    ensures { IfOk result (λ named. named ≡ is_name name.now) }
+{
+    Ok(name_text(alloc, name)?.is_some())
+}
 
 impl Tables {
     /// Whether the connection has taken up the live epoch.
@@ -83,10 +90,10 @@ impl Tables {
         if !named {
             return Effect::Nothing(Reply::NameRefused);
         }
-        match free_id(&self.present) {
+        match free_id(&self.roster.present) {
             Some(user) => Effect::Joined {
                 user,
-                next: first_operator(&self.present, user),
+                next: first_operator(&self.roster.present, user),
             },
             None => Effect::Nothing(Reply::Full),
         }
@@ -115,7 +122,7 @@ impl Tables {
             Some(connection) => Effect::Left {
                 conn,
                 connection,
-                next: next_operator(&self.rights, &self.present, connection.user),
+                next: next_operator(&self.live.rights, &self.roster.present, connection.user),
             },
             None => Effect::Nothing(Reply::Ignored),
         }
@@ -128,8 +135,8 @@ impl Tables {
     {
         Ok(match event {
             Event::Open { name, .. } => {
-                let text = name_text(self.allocator(), name.as_slice())?;
-                self.open_effect(text.is_some())
+                let named = is_named(self.allocator(), name.as_slice())?;
+                self.open_effect(named)
             }
             Event::Say { conn, msg } => {
                 self.say_effect(*conn, msg, row.saturating_sub(6) as u64)
@@ -138,61 +145,14 @@ impl Tables {
         })
     }
 
-    /// The entries that the event, which opens no epoch, places beside what it says: this one, and
-    /// that which makes a user the only operator, if there is one.
-    fn entries(
-        &self,
-        event: &Event,
-        effect: Effect,
-        first: Option<Box<Entry>>,
-        owner: Option<u8>,
-    ) -> Result<Supply, AllocError>
-        requires stays { opens_epoch effect ≡ false }
-        requires whole { own_entries event.now effect ++ (unboxed first ++ next_owner owner)
-            ≡ entries_of event.now effect }
-        ensures { IfOk result (IsSupply self.now.journal (state_in self.now) event.now effect) }
-    {
-        match owner_entry(self.allocator(), owner) {
-            Ok(second) => Ok(Supply::Entries { first, second }),
-            Err(error) => {
-                drop(first);
-                Err(error)
-            }
-        }
-    }
-
     /// What the event, which does this, places beside what it says.
     pub(crate) fn supply(&self, event: &Event, effect: Effect) -> Result<Supply, AllocError>
         requires { IsEffect (state_in self.now) event.now effect }
         ensures { IfOk result (IsSupply self.now.journal (state_in self.now) event.now effect) }
     {
-        let alloc = self.allocator();
         match effect {
-            Effect::Filtered { connection, .. } | Effect::Dropped { connection, .. } => {
-                let first = boxed(alloc, Some(filtered(event, connection.user)))?;
-                self.entries(event, effect, first, None)
-            }
-            Effect::Joined { user, next } => {
-                let first = boxed(alloc, join_entry(alloc, event, user)?)?;
-                self.entries(event, effect, first, next)
-            }
-            Effect::Left {
-                connection,
-                next,
-                ..
-            } => {
-                let leave = Entry {
-                    user: connection.user,
-                    msg: Msg::Meta(Meta::Leave),
-                };
-                let first = boxed(alloc, Some(leave))?;
-                self.entries(event, effect, first, next)
-            }
             Effect::Reopened { .. } => Ok(Supply::Opens(self.open_epoch()?)),
-            _ => Ok(Supply::Entries {
-                first: None,
-                second: None,
-            }),
+            _ => make_entries(self.allocator(), event, effect),
         }
     }
 

@@ -29,7 +29,7 @@ impl Tables {
         requires { is_some (connection_of (state_in self.now) conn) ≡ true }
         ensures { result ≡ list_any (λ other. other == conn) self.now.quiet }
     {
-        is_flagged(&self.quiet, conn)
+        is_flagged(&self.roster.quiet, conn)
     }
 
     /// Copies of entries of the live history before a place, from another place on, at most that
@@ -38,7 +38,7 @@ impl Tables {
         ensures { IfOk result (λ copies. copies
             ≡ due_page at most (take end (state_in self.now).live)) }
     {
-        let history = prefix_of(&self.live, end);
+        let history = prefix_of(&self.live.history, end);
         let most = 1u32.max(most) as usize;
         let items = prefix_of(rest_of(history, at as usize), most);
         copies(self.allocator(), &self.journal, items)
@@ -132,8 +132,9 @@ impl Tables {
         match self.due(conn, epoch, at) {
             Some(Due { epoch, at, end }) => {
                 let count = self
+                    .live
                     .frames
-                    .put_page(&self.journal, &self.live, end, at as usize, page)?;
+                    .put_page(&self.journal, &self.live.history, end, at as usize, page)?;
                 Ok(Some(Page { epoch, at, count }))
             }
             None => {
@@ -149,6 +150,8 @@ impl Tables {
         ensures { self.new ≡ self.old }
     {
         let alloc = self.allocator();
-        self.frames.write(alloc, &self.journal, &self.live);
+        self.live
+            .frames
+            .write(alloc, &self.journal, &self.live.history);
     }
 }

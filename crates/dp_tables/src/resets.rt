@@ -30,7 +30,7 @@ ghost use Rattle.dp_history.specs.Openings.{Holds};
 ghost use Rattle.dp_tables.specs.Opened.{opening_in};
 
 use crate::tables::Tables;
-use dp_commit::start_of;
+use dp_commit::add_carried;
 use dp_epochs::{
     Connection, Decision, epochs_are_few, histories_are_short, openings, present_users_rise,
 };
@@ -53,9 +53,9 @@ impl Tables {
         ensures { result ≡ option_map_or (is_held_by_other (state_in self.now) conn)
             (state_in self.now).stream false }
     {
-        match self.owner {
+        match self.sending.owner {
             Some(owner) if owner != conn => match self.open_connection(owner) {
-                Some(other) => self.rights.is_operator(other.user),
+                Some(other) => self.live.rights.is_operator(other.user),
                 None => false,
             },
             _ => false,
@@ -66,7 +66,7 @@ impl Tables {
     fn sends_reset(&self, conn: u32, connection: &Connection) -> bool
         ensures { result ≡ is_some (reset_of (state_in self.now) conn connection.now) }
     {
-        self.rights.is_operator(connection.user) && self.owner == Some(conn)
+        self.live.rights.is_operator(connection.user) && self.sending.owner == Some(conn)
     }
 
     /// Whether the reset may have one more part, whose payload has this size.
@@ -74,7 +74,7 @@ impl Tables {
         ensures { (stream : Stream) (command : Drawn) → (state_in self.now).stream ≡ Some stream
             → size ≡ part_bytes command → result ≡ fits_reset stream.commands command }
     {
-        self.parts.len() < PART_LIMIT && size <= BYTE_LIMIT - self.part_bytes
+        self.sending.parts.len() < PART_LIMIT && size <= BYTE_LIMIT - self.sending.part_bytes
     }
 
     /// Whether the connection may begin a reset: its user is operator, and no other present
@@ -82,7 +82,7 @@ impl Tables {
     fn may_begin(&self, conn: u32, connection: &Connection) -> bool
         ensures { result ≡ may_begin (state_in self.now) conn connection.now }
     {
-        self.rights.is_operator(connection.user) && !self.is_held_by_other(conn)
+        self.live.rights.is_operator(connection.user) && !self.is_held_by_other(conn)
     }
 
     /// What becomes of a message that begins a reset which keeps no entry.
@@ -101,7 +101,7 @@ impl Tables {
     fn is_within_live(&self, at: u32) -> bool
         ensures { result ≡ nat_le at (length (state_in self.now).live) }
     {
-        at as usize <= self.live.len()
+        at as usize <= self.live.history.len()
     }
 
     /// What becomes of a message that begins a reset which keeps entries from this place on.
@@ -153,7 +153,7 @@ impl Tables {
         ensures { result ≡ epoch_of (state_in self.now) + 1 }
     {
         epochs_are_few();
-        self.epoch + 1
+        self.live.number + 1
     }
 
     /// The entries from the place on that the reset names which is being sent.
@@ -163,8 +163,8 @@ impl Tables {
             ≡ kept_by (state_in self.now).stream (state_in self.now).live }
         ensures few { length result.now ≤ length (state_in self.now).live }
     {
-        let from = start_of(self.owner, self.place, self.live.len());
-        rest_of(&self.live, from)
+        let from = self.sending.start(self.live.history.len());
+        rest_of(&self.live.history, from)
     }
 
     /// How many users are present, and the messages on rights that go over into the next epoch.
@@ -175,8 +175,8 @@ impl Tables {
             ≡ carried (state_in self.now).live (present_users (state_in self.now))) }
     {
         present_users_rise();
-        let present = present_ids(self.allocator(), &self.present)?;
-        let metas = self.rights.carry(&present)?;
+        let present = present_ids(self.allocator(), &self.roster.present)?;
+        let metas = self.live.rights.carry(&present)?;
         Ok((present.as_slice().len(), metas))
     }
 
@@ -196,10 +196,15 @@ impl Tables {
     {
         let items = self.kept_items();
         opening.add(mark(self.next_epoch(), after))?;
-        opening.add_joins(&self.journal, &self.opens, &self.present)?;
-        opening.add_metas(metas)?;
-        opening.add_commands(&self.parts)?;
-        opening.add_kept(&self.journal, items, kept)?;
+        add_carried(
+            opening,
+            &self.journal,
+            &self.roster,
+            metas,
+            &self.sending.parts,
+            items,
+            kept,
+        )?;
         Ok(())
     }
 
@@ -232,7 +237,7 @@ impl Tables {
         let over = self.carry()?;
         let items = self.kept_items();
         let kept = count_kept(&self.journal, items);
-        let after = count_after(over.0, over.1.len(), self.parts.len(), kept);
+        let after = count_after(over.0, over.1.len(), self.sending.parts.len(), kept);
         self.open_with(after, &over.1, kept)
     }
 }

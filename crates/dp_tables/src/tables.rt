@@ -8,10 +8,9 @@ ghost use Rattle.dp_epochs.specs.State.{next_open, here};
 ghost use Rattle.dp_tables.specs.SessionLog.{state_in};
 
 use crate::resets::mark;
-use dp_acl::Rights;
-use dp_commit::{connection, next_open, open_connection, reserve};
+use dp_commit::{LiveEpoch, Roster, Sending, connection, next_open, open_connection, reserve};
 use dp_epochs::{Connection, Event, Place, ShutAt, histories_are_short};
-use dp_history::{HistoryFrames, HistoryItem, Opening};
+use dp_history::Opening;
 use dp_messages::Msg;
 use std::alloc::{AllocError, Global};
 use std::marker::Model;
@@ -29,24 +28,9 @@ pub struct Tables {
     pub(crate) journal: Vec<Event>,
     pub(crate) row_bytes: u64,
     pub(crate) shut: Vec<ShutAt>,
-    pub(crate) connections: Vec<Connection>,
-    pub(crate) quiet: Vec<bool>,
-    pub(crate) epoch: u32,
-    pub(crate) live: Vec<HistoryItem>,
-    /// The frames that were made of the live history.
-    pub(crate) frames: HistoryFrames,
-    pub(crate) rights: Rights,
-    pub(crate) present: [bool; 256],
-    /// For each id, the event of the journal by which its user joined last.
-    pub(crate) opens: [u32; 256],
-    /// The connection that sends a reset.
-    pub(crate) owner: Option<u32>,
-    /// The place from which on that reset keeps entries.
-    pub(crate) place: Option<u32>,
-    /// The events of the journal that say the parts of the reset.
-    pub(crate) parts: Vec<u32>,
-    /// How many bytes the payloads of the parts have.
-    pub(crate) part_bytes: u64,
+    pub(crate) roster: Roster,
+    pub(crate) sending: Sending,
+    pub(crate) live: LiveEpoch,
 }
 
 impl Model for Tables {
@@ -70,23 +54,13 @@ impl Tables {
     {
         let mut opening = Opening::new(alloc)?;
         opening.add(mark(0, 0))?;
-        let Opening { live, rights } = opening;
         Ok(Tables {
             journal: Vec::new(alloc),
             row_bytes: 0,
             shut: Vec::new(alloc),
-            connections: Vec::new(alloc),
-            quiet: Vec::new(alloc),
-            epoch: 0,
-            live,
-            frames: HistoryFrames::new(alloc),
-            rights: Box::into_inner(rights),
-            present: [false; 256],
-            opens: [0; 256],
-            owner: None,
-            place: None,
-            parts: Vec::new(alloc),
-            part_bytes: 0,
+            roster: Roster::new(alloc),
+            sending: Sending::new(alloc),
+            live: LiveEpoch::new(alloc, opening),
         })
     }
 
@@ -99,18 +73,9 @@ impl Tables {
             journal,
             row_bytes: _,
             shut,
-            connections: _,
-            quiet: _,
-            epoch: _,
+            roster: _,
+            sending: _,
             live: _,
-            frames: _,
-            rights: _,
-            present: _,
-            opens: _,
-            owner: _,
-            place: _,
-            parts: _,
-            part_bytes: _,
         } = self;
         (journal, shut)
     }
@@ -125,8 +90,8 @@ impl Tables {
     {
         histories_are_short();
         Place {
-            epoch: self.epoch,
-            index: self.live.len() as u32,
+            epoch: self.live.number,
+            index: self.live.history.len() as u32,
         }
     }
 
@@ -149,28 +114,28 @@ impl Tables {
     pub(crate) fn connection(&self, conn: u32) -> Option<Connection>
         ensures { result ≡ connection_of (state_in self.now) conn }
     {
-        connection(&self.connections, conn)
+        connection(&self.roster.connections, conn)
     }
 
     /// The connection of a number, if it was given out and is open.
     pub(crate) fn open_connection(&self, conn: u32) -> Option<Connection>
         ensures { result ≡ open_connection (state_in self.now) conn }
     {
-        open_connection(&self.connections, conn)
+        open_connection(&self.roster.connections, conn)
     }
 
     /// The least number above this one of a connection that is open. It takes no memory.
     pub fn next_open(&self, after: u32) -> Option<u32>
         ensures { result ≡ next_open (state_in self.now).connections after }
     {
-        next_open(&self.connections, after)
+        next_open(&self.roster.connections, after)
     }
 
     /// Whether the user may say the message now.
     pub(crate) fn permits(&self, user: u8, msg: &Msg) -> bool
         ensures { result ≡ permitted (state_in self.now).live user msg.now }
     {
-        self.rights.permits(user, msg)
+        self.live.rights.permits(user, msg)
     }
 
     /// Makes the memory ready that any one event needs.
@@ -181,11 +146,9 @@ impl Tables {
         reserve(
             &mut self.journal,
             &mut self.shut,
-            &mut self.connections,
-            &mut self.quiet,
-            &mut self.parts,
+            &mut self.roster,
+            &mut self.sending,
             &mut self.live,
-            &mut self.rights,
         )
     }
 }

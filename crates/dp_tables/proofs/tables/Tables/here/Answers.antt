@@ -6,6 +6,6 @@ pub overflow_cast-result : goal.overflow_cast-result
 overflow_cast-result c =
     omega (
       arith,
-      c.self.inside.live.ok.0,
+      c.self.inside.live.history.ok.0,
       live-fits c.histories_are_short.ensures c.self.inside c.self.invariant,
     )

@@ -12,8 +12,8 @@ returns c =
     let t = c.self.inside in
     let are = of-ledger t c.args.self.now c.self.invariant c.self.view_is in
     let given = given-out (state_in c.args.self.now).connections c.args.conn c.requires in
-    let below : c.args.conn ≤ length t.quiet.items = omega
+    let below : c.args.conn ≤ length t.roster.quiet.items = omega
     (arith, given.1, c.self.invariant.flags, ap length are.table) in
     c.is_flagged.ensures ∙ ap (λ q. mark q (c.args.conn - 1)) c.deref.ensures.value
-    ∙ sym (quiet-listed t.quiet.items c.args.conn given.0 below)
+    ∙ sym (quiet-listed t.roster.quiet.items c.args.conn given.0 below)
     ∙ ap (λ l. list_any (λ other. other == c.args.conn) l.quiet) c.self.view_is

@@ -10,5 +10,5 @@ returns c =
     let s = state_in c.args.self.now in
     let are = of-ledger t c.args.self.now c.self.invariant c.self.view_is in
     let count : c.len.result ≡ length s.live = omega
-    (arith, t.live.ok.0, c.len.ensures, live-length s (seen t) are) in
+    (arith, t.live.history.ok.0, c.len.ensures, live-length s (seen t) are) in
     ap (nat_le c.args.at) count

@@ -7,7 +7,9 @@ pub invariant_of-result : goal.invariant_of-result
 invariant_of-result c =
     let holds = subst (λ e. Holds [] c.add.new.self ([] ++ e ∷ [])) c.mark.ensures
     (c.in_ok-add.ensures [] [] (c.in_ok-opening.ensures [])) in
-    tables-first _ c.add.new.self holds c.new-2.ensures.items
-    c.new-3.ensures.items c.new-4.ensures.items
-    c.new-5.ensures.items refl refl c.into_inner.ensures refl refl
-    refl refl refl c.new-7.ensures.items refl c.new-6.ensures
+    let roster = c.new-4.ensures in
+    let sending = c.new-5.ensures in
+    let live = c.new-6.ensures in
+    tables-first _ c.add.new.self holds c.new-2.ensures.items c.new-3.ensures.items
+    roster.connections roster.quiet live.history refl live.rights roster.present live.number
+    roster.opens sending.owner sending.place sending.parts sending.bytes live.frames

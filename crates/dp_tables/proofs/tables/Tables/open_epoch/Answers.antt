@@ -33,7 +33,7 @@ count_after-after-requires c =
       c.len.ensures,
       c.len-2.ensures,
       c.in_ok-over.over.1.ok.0,
-      t.parts.ok.0,
+      t.sending.parts.ok.0,
       kept,
       kept-short s (seen t) are,
       live-length s (seen t) are,
@@ -60,7 +60,7 @@ returns c =
       c.len.ensures,
       c.len-2.ensures,
       metas.ok.0,
-      t.parts.ok.0,
+      t.sending.parts.ok.0,
       kept,
     )))
     (rw c.deref-2.ensures.value at c.open_with.ensures)

@@ -18,6 +18,6 @@ returns c =
     ) at c.copies.ensures
     in
     subst (λ xs. IfOk c.copies.result (λ copies. copies ≡ xs))
-    (page-is t.journal.items t.live.items (state_in c.args.self.now).live c.args.end c.args.at
-    (max 1 c.args.most) are.entries)
+    (page-is t.journal.items t.live.history.items (state_in c.args.self.now).live c.args.end
+    c.args.at (max 1 c.args.most) are.entries)
     copied

@@ -17,11 +17,11 @@ put_page-requires-clause-said c =
 pub put_page-requires-clause-made : goal.put_page-requires-clause-made
 put_page-requires-clause-made c =
     let t = c.self.inside in
-    subst (λ j. AreMadeOf t.frames (map (entry_in j) c.deref-in-Some.result.now))
+    subst (λ j. AreMadeOf t.live.frames (map (entry_in j) c.deref-in-Some.result.now))
     (sym c.deref.ensures.value)
-    (subst (λ xs. AreMadeOf t.frames (map (entry_in t.journal.items) xs))
+    (subst (λ xs. AreMadeOf t.live.frames (map (entry_in t.journal.items) xs))
     (sym c.deref-in-Some.ensures.value)
-    (subst (AreMadeOf t.frames) (sym c.self.invariant.of.entries) c.self.invariant.frames))
+    (subst (AreMadeOf t.live.frames) (sym c.self.invariant.of.entries) c.self.invariant.frames))
 
 pub returns-in_ok-count-in-Some-clause-page : goal.returns-in_ok-count-in-Some-clause-page
 returns-in_ok-count-in-Some-clause-page c =

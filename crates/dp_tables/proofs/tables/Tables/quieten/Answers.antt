@@ -12,8 +12,8 @@ returns c =
     let t = c.self.inside in
     let are = c.self.invariant in
     ledger-is _ _ (ap (λ l. l.journal) c.self.view_is) (ap (λ l. l.shut) c.self.view_is)
-    (ap quiet_of c.flag_connection.ensures
-    ∙ quiet-flagged (state_in (ledger_of t)) t.quiet.items c.args.conn
+    (ap quiet_of c.flag.ensures.quiet
+    ∙ quiet-flagged (state_in (ledger_of t)) t.roster.quiet.items c.args.conn
     (are.flags ∙ ap length are.of.table)
     ∙ ap (λ l. quiet_with (state_in l) c.args.conn l.quiet) c.self.view_is)
     refl

@@ -15,5 +15,5 @@ invariant_of-self c =
       within = are.within;
       flags = are.flags;
       frames = subst (AreMadeOf c.write.new.self) are.of.entries
-          (made (subst (AreMadeOf t.frames) (sym are.of.entries) are.frames));
+          (made (subst (AreMadeOf t.live.frames) (sym are.of.entries) are.frames));
     }

@@ -1,0 +1,50 @@
+//! What goes over into the next epoch.
+
+ghost use Rattle.std.specs.Prelude.{◌≡◌, ◌≤◌, ◌++◌, ℕ, List, true, is_some, map, All, OnOk};
+ghost use Rattle.std.specs.Prelude.{slice_get, slice_index_or};
+ghost use Rattle.std.specs.List.{filter, filter_map};
+ghost use Rattle.dp_messages.specs.declared.message.Entry.{Entry as Piece};
+ghost use Rattle.dp_acl.specs.Opening.{server_entry, command_entry, last_join, goes_over};
+ghost use Rattle.dp_epochs.specs.State.{user_ids};
+ghost use Rattle.dp_history.specs.Users.{mark, AreJoined};
+ghost use Rattle.dp_history.specs.Items.{join_of, IsIn, IsPart, commands_in, entry_in};
+ghost use Rattle.dp_history.specs.Openings.{Holds};
+
+use crate::connections::Roster;
+use dp_epochs::Event;
+use dp_history::{HistoryItem, Opening};
+use dp_msg_meta::Meta;
+use std::alloc::AllocError;
+
+/// Adds to an opening what goes over: the Joins of the users who are present, these messages on
+/// rights, the commands of these parts, and those of these entries that a reset may keep. Memory
+/// for `count` such entries is taken at once.
+pub fn add_carried(
+    opening: &mut Opening,
+    journal: &[Event],
+    roster: &Roster,
+    metas: &[Meta],
+    parts: &[u32],
+    items: &[HistoryItem],
+    count: usize,
+) -> Result<(), AllocError>
+    requires joined { (user : ℕ) → 1 ≤ user → user ≤ 254 → mark roster.now.present user ≡ true
+        → is_some (join_of user (slice_get journal.now
+        (slice_index_or roster.now.opens user 0))) ≡ true }
+    requires said { All (IsIn journal.now) items.now }
+    ensures { OnOk result ((history : List Piece) (live : List Piece)
+        → AreJoined journal.now live roster.now.present roster.now.opens
+        → All (IsPart journal.now) parts.now → Holds journal.now opening.old history
+        → Holds journal.now opening.new
+        ((((history
+        ++ filter_map (last_join live) (filter (mark roster.now.present) user_ids))
+        ++ map server_entry metas.now)
+        ++ map command_entry (commands_in journal.now parts.now))
+        ++ filter (λ e. goes_over e.msg) (map (entry_in journal.now) items.now))) }
+{
+    opening.add_joins(journal, &roster.opens, &roster.present)?;
+    opening.add_metas(metas)?;
+    opening.add_commands(parts)?;
+    opening.add_kept(journal, items, count)?;
+    Ok(())
+}
