@@ -3,14 +3,14 @@
 ghost use Rattle.std.specs.Prelude.{◌≡◌, ◌∷◌, ◌++◌, [], None, false, is_some, length, replicate};
 ghost use Rattle.std.specs.Prelude.{IfNone, IfOk, IfSome, OnOk};
 ghost use Rattle.std.specs.List.{fold};
-ghost use Rattle.dp_epochs.specs.Past.{state_of};
+ghost use Rattle.dp_epochs.specs.Past.{state_of, sure_step};
 ghost use Rattle.dp_lists.specs.Numbered.{numbered};
 ghost use Rattle.dp_schedule.specs.declared.action.Action.TheVariants.{Join, Act};
 ghost use Rattle.dp_schedule.specs.declared.action.Instruction.TheVariants.{Say, Up};
 ghost use Rattle.dp_drill.specs.Flow.{waiting};
 ghost use Rattle.dp_drill.specs.Flow.{GetsHistory, first_flow, flow_after, last_sends};
 
-use dp_epochs::{Answer, Entries, Event, Query};
+use dp_epochs::{Answer, Entries, Event, Query, Reply};
 use dp_frame::Octets;
 use dp_keeper::{Rows, SureKeeper};
 use dp_machine::Machine;
@@ -69,6 +69,14 @@ impl Uplink {
     }
 }
 
+/// Has the session serve an event, which isn't kept.
+fn serve(session: &mut Session<SureKeeper>, event: Event) -> Result<Reply, AllocError>
+    requires { session.old.first_fault ≡ None }
+    ensures { OnOk result (session.new ≡ sure_step session.old event) }
+{
+    session.step_surely(&event)
+}
+
 /// A session, and the messages on their way from each client, in the order of their joins.
 #[derive(Drop)]
 pub(crate) struct Flow {
@@ -106,7 +114,7 @@ impl Flow {
     {
         let name = Octets::from_vec(Vec::from_slice(self.alloc, name)?);
         let registered = false;
-        self.session.step_surely(&Event::Open { name, registered })?;
+        serve(&mut self.session, Event::Open { name, registered })?;
         self.uplinks.push(Uplink::new(self.alloc))?;
         Ok(())
     }
@@ -124,6 +132,7 @@ impl Flow {
         ensures past { self.new.past ≡ self.old.past }
     {
         if !self.has(client) {
+            drop(msg);
             return Ok(());
         }
         self.uplinks[client as usize - 1].push(msg)?;
@@ -142,7 +151,7 @@ impl Flow {
         let Some(msg) = self.uplinks[client as usize - 1].pop() else {
             return Ok(());
         };
-        self.session.step_surely(&Event::Say { conn: client, msg })?;
+        serve(&mut self.session, Event::Say { conn: client, msg })?;
         Ok(())
     }
 

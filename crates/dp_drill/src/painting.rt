@@ -1,9 +1,11 @@
 //! The history of a drill, drawn once.
 
-ghost use Rattle.std.specs.Prelude.{◌≡◌, ◌++◌, length, map, IfOk, OnOk};
+ghost use Rattle.std.specs.Prelude.{◌≡◌, ◌∷◌, ◌++◌, [], length, map, IfOk, OnOk};
 ghost use Rattle.dp_board.specs.Commands.{command_of, commands, drawn_commands};
 ghost use Rattle.dp_board.specs.Counts.{CountsFew};
 ghost use Rattle.dp_pixels.specs.Feet.{reach};
+ghost use Rattle.dp_plain.specs.Board.{empty_board};
+ghost use Rattle.dp_plain.specs.Commands.{draw_all};
 ghost use Rattle.dp_replay.specs.Replay.{replay, undo_depth, user_act_of};
 
 use dp_board::{Act, UserAct, drawn_flags, each_act_has_a_flag};
@@ -35,8 +37,23 @@ pub(crate) fn paint_history<R: Threads + Sync, G: Gate, D: Ledger, T: Ledger>(
         draws.old draws.new tiles.old tiles.new }
 {
     let commands = drawn_commands(alloc, entries)?;
+    paint(rt, alloc, &commands, workers, draws, tiles)
+}
+
+/// A canvas on which these commands were drawn, by workers.
+fn paint<R: Threads + Sync, G: Gate, D: Ledger, T: Ledger>(
+    rt: &R,
+    alloc: Global,
+    commands: &[Draw],
+    workers: &Workers<'_, G>,
+    draws: &mut Steps<D>,
+    tiles: &mut Steps<T>,
+) -> Result<Canvas, AllocError>
+    ensures canvas { IfOk result (λ canvas. canvas ≡ draw_all empty_board commands.now) }
+    ensures few { CountsFew reach commands.now draws.old draws.new tiles.old tiles.new }
+{
     let mut canvas = Canvas::new(alloc);
-    canvas.draw_batch(rt, &commands, workers, draws, tiles)?;
+    canvas.draw_batch(rt, commands, workers, draws, tiles)?;
     Ok(canvas)
 }
 
@@ -45,10 +62,17 @@ fn drawn_commands(alloc: Global, entries: &[Entry]) -> Result<Vec<Draw>, AllocEr
     ensures { IfOk result (λ drawn. drawn.items
         ≡ drawn_commands undo_depth (map user_act_of entries.now)) }
 {
-    each_act_has_a_flag::<Draw>();
     let acts = acts_of(alloc, entries)?;
-    let flags = drawn_flags(alloc, UNDO_DEPTH, &acts)?;
-    flagged_commands(alloc, &acts, &flags)
+    drawn_of(alloc, &acts)
+}
+
+/// The commands of the acts that aren't undone, in their order.
+fn drawn_of(alloc: Global, acts: &[UserAct<Draw>]) -> Result<Vec<Draw>, AllocError>
+    ensures { IfOk result (λ drawn. drawn.items ≡ drawn_commands undo_depth acts.now) }
+{
+    each_act_has_a_flag::<Draw>();
+    let flags = drawn_flags(alloc, UNDO_DEPTH, acts)?;
+    flagged_commands(alloc, acts, &flags)
 }
 
 /// What each entry does to strokes.
@@ -57,12 +81,20 @@ fn acts_of(alloc: Global, entries: &[Entry]) -> Result<Vec<UserAct<Draw>>, Alloc
 {
     let mut acts = Vec::with_capacity(alloc, entries.len())?;
     for entry in entries {
-        acts.push(UserAct {
-            user: entry.user,
-            act: act_of(entry)?,
-        })?;
+        push_act(&mut acts, entry)?;
     }
     Ok(acts)
+}
+
+/// Adds what an entry does to strokes.
+fn push_act(acts: &mut Vec<UserAct<Draw>>, entry: &Entry) -> Result<(), AllocError>
+    ensures { OnOk result (acts.new.items ≡ acts.old.items ++ user_act_of entry.now ∷ []) }
+{
+    acts.push(UserAct {
+        user: entry.user,
+        act: act_of(entry)?,
+    })?;
+    Ok(())
 }
 
 /// The commands of the acts whose flags are true.

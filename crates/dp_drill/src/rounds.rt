@@ -2,7 +2,7 @@
 
 ghost use Rattle.std.specs.Prelude.{◌≡◌, ◌<◌, ◌^◌, None, IfOk, OnOk};
 ghost use Rattle.std.specs.List.{fold};
-ghost use Rattle.dp_drill.specs.Flow.{first_flow, flow_after, flow_after_all};
+ghost use Rattle.dp_drill.specs.Flow.{flow_after};
 ghost use Rattle.dp_drill.specs.Schedule.{IsBrush, dab, first_actions, round, round_brush};
 ghost use Rattle.dp_drill.specs.Schedule.{round_of, rounds, square};
 
@@ -23,12 +23,12 @@ pub(crate) struct Brush {
     pub rgb: u32,
 }
 
-/// The session after three clients have joined, and the first has made a canvas with a layer.
-pub(crate) fn begin(alloc: Global) -> Result<Flow, AllocError>
-    ensures flow { IfOk result (λ flow. flow ≡ flow_after_all first_actions) }
-    ensures sure { IfOk result (λ flow. flow.past.first_fault ≡ None) }
+/// Three clients join, and the first makes a canvas with a layer.
+pub(crate) fn begin(alloc: Global, flow: &mut Flow) -> Result<(), AllocError>
+    requires { flow.old.past.first_fault ≡ None }
+    ensures ok { OnOk result (flow.new ≡ fold flow_after flow.old first_actions) }
+    ensures sure { OnOk result (flow.new.past.first_fault ≡ None) }
 {
-    let mut flow = Flow::new(alloc)?;
     flow.join(b"a")?;
     flow.join(b"b")?;
     flow.join(b"c")?;
@@ -47,8 +47,7 @@ pub(crate) fn begin(alloc: Global) -> Result<Flow, AllocError>
     };
     flow.say(1, Msg::Draw(layer))?;
     flow.send(1)?;
-    flow.send(1)?;
-    Ok(flow)
+    flow.send(1)
 }
 
 /// This number of rounds, from a state of the generator on.

@@ -1,13 +1,18 @@
 //! Running a drill.
 
-ghost use Rattle.std.specs.Prelude.{◌≡◌, ◌≤◌, ℕ, IfOk};
+ghost use Rattle.std.specs.Prelude.{◌≡◌, ◌≤◌, ℕ, IfOk, length, map};
+ghost use Rattle.dp_board.specs.Commands.{drawn_commands};
 ghost use Rattle.dp_board.specs.Counts.{CountsFew};
 ghost use Rattle.dp_lines.specs.RunEnds.{FaultMatchesEnd};
 ghost use Rattle.dp_pixels.specs.Feet.{reach};
+ghost use Rattle.dp_plain.specs.Picture.{picture};
+ghost use Rattle.dp_replay.specs.Replay.{replay, undo_depth, user_act_of};
 ghost use Rattle.dp_script.specs.Counters.{counters};
+ghost use Rattle.dp_drill.specs.Flow.{first_flow};
 ghost use Rattle.dp_drill.specs.Leaves.{DrillLeaves};
-ghost use Rattle.dp_drill.specs.Summary.{drill_due, drill_history, drill_text};
+ghost use Rattle.dp_drill.specs.Summary.{drill_due, drill_history, drill_text, summary, sums_of};
 
+use crate::flow::Flow;
 use crate::laws::drills_need_no_clients;
 use crate::painting::paint_history;
 use crate::rounds::{begin, play_rounds};
@@ -16,6 +21,7 @@ use dp_canvas::Workers;
 use dp_epochs::Entries;
 use dp_io::{Failed, Sink, put_all};
 use dp_lines::RunEnd;
+use dp_messages::Entry;
 use dp_steps::Steps;
 use dp_wire::Gate;
 use std::alloc::{AllocError, Global};
@@ -77,24 +83,45 @@ fn drill_text<R: Threads + Sync, G: Gate, D: Ledger, T: Ledger>(
         draws.old draws.new tiles.old tiles.new }
 {
     let entries = drill_history(alloc, drill)?;
-    let canvas = paint_history(rt, alloc, entries.as_slice(), workers, draws, tiles)?;
+    summary_of(rt, alloc, drill, entries.as_slice(), workers, draws, tiles)
+}
+
+/// The summary of a drill with this history.
+fn summary_of<R: Threads + Sync, G: Gate, D: Ledger, T: Ledger>(
+    rt: &R,
+    alloc: Global,
+    drill: Drill,
+    entries: &[Entry],
+    workers: &Workers<'_, G>,
+    draws: &mut Steps<D>,
+    tiles: &mut Steps<T>,
+) -> Result<Vec<u8>, AllocError>
+    ensures text { IfOk result (λ text. text.items ≡ summary drill.seed drill.rounds
+        (length entries.now) (sums_of (picture (replay entries.now)))) }
+    ensures few { CountsFew reach (drawn_commands undo_depth (map user_act_of entries.now))
+        draws.old draws.new tiles.old tiles.new }
+{
+    let canvas = paint_history(rt, alloc, entries, workers, draws, tiles)?;
     let sums = sums_of(&canvas);
-    summary(
-        alloc,
-        drill.seed,
-        drill.rounds,
-        entries.as_slice().len(),
-        sums,
-    )
+    summary(alloc, drill.seed, drill.rounds, entries.len(), sums)
 }
 
 /// The history that the session has after a drill.
 fn drill_history(alloc: Global, drill: Drill) -> Result<Entries, AllocError>
     ensures { IfOk result (λ entries. entries ≡ drill_history drill.seed drill.rounds) }
 {
+    let mut flow = Flow::new(alloc)?;
+    play_drill(alloc, &mut flow, drill)
+}
+
+/// The history after a drill. No `?` holds the session.
+fn play_drill(alloc: Global, flow: &mut Flow, drill: Drill) -> Result<Entries, AllocError>
+    requires { flow.old ≡ first_flow }
+    ensures { IfOk result (λ entries. entries ≡ drill_history drill.seed drill.rounds) }
+{
     drills_need_no_clients();
-    let mut flow = begin(alloc)?;
-    play_rounds(alloc, &mut flow, drill.seed, drill.rounds)?;
+    begin(alloc, flow)?;
+    play_rounds(alloc, flow, drill.seed, drill.rounds)?;
     flow.send_all()?;
     flow.history()
 }

@@ -1,8 +1,8 @@
 -- One pixel after the other.
-use Rattle.std.proofs.Common.{◌≡◌, ◌≤◌, ℕ, ◌+◌, ◌*◌, [], ◌∷◌, ap, arith, map, subst, sym, ◌∙◌}
+use Rattle.std.proofs.Common.{◌≡◌, ◌+◌, ◌*◌, [], ◌∷◌, ap, arith, map, ◌∙◌}
 use Rattle.dp_blend.specs.Canvas.{below}
 use Rattle.dp_plain.specs.Picture.{seen}
-use Rattle.dp_drill.specs.Summary.{AreAtMost, plus, sums_of}
+use Rattle.dp_drill.specs.Summary.{plus, sums_of}
 use Rattle.dp_drill.proofs.Sums.{at-more, pixel-more, plus-none}
 use Rattle.dp_drill.proofs.summary.with_row.Goals as goal
 

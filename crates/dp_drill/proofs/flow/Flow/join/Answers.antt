@@ -14,8 +14,8 @@ returns-clause-ok c =
       past = c.self.inside.session;
       uplinks = c.self.inside.uplinks.items;
     } in
-    joined-made before name c.step_surely.new.self c.push.new.self.items
-    (c.in_ok-step_surely.ensures.ok
+    joined-made before name c.serve.new.session c.push.new.self.items
+    (c.in_ok-serve.ensures
     ∙ ap (λ bytes. sure_step c.self.inside.session (event.Open bytes false))
     (c.from_vec-name.ensures ∙ c.in_ok-from_slice.ensures.items))
     (c.in_ok-push.ensures.items ∙ ap (λ u. c.self.inside.uplinks.items ++ u ∷ []) c.new.ensures)

@@ -1,5 +1,5 @@
 -- The message joins the client's uplink, if there is such a client.
-use Rattle.std.proofs.Common.{ap, arith, length, sym, ◌∙◌, subst, true, is_some}
+use Rattle.std.proofs.Common.{ap, arith, length, sym, ◌∙◌, is_some}
 use Rattle.dp_lists.specs.Numbered.{numbered}
 use Rattle.dp_schedule.specs.declared.action.Action.TheVariants.{Act}
 use Rattle.dp_schedule.specs.declared.action.Instruction.TheVariants.{Say}

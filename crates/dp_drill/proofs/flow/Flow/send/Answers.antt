@@ -1,5 +1,5 @@
 -- The session takes the first message of the client's uplink, if there is one.
-use Rattle.std.proofs.Common.{ap, arith, length, sym, ◌∙◌, true, is_some}
+use Rattle.std.proofs.Common.{ap, arith, length, sym, ◌∙◌, is_some}
 use Rattle.dp_lists.specs.Numbered.{numbered}
 use Rattle.dp_schedule.specs.declared.action.Action.TheVariants.{Act}
 use Rattle.dp_schedule.specs.declared.action.Instruction.TheVariants.{Up}
@@ -38,6 +38,6 @@ returns-clause-ok c =
     let some = ap (λ (f : Flow). is_some (numbered f.uplinks c.args.client)) c.self.view_is
     ∙ sym c.has.ensures ∙ c.if-not-has.false in
     sent-made before c.args.client some c.index_mut.result.now c.index_mut.ensures.value
-    c.in-Some.msg c.pop.new.self c.step_surely.new.self c.in-Some.ensures.some
-    c.in_ok-step_surely.ensures.ok
+    c.in-Some.msg c.pop.new.self c.serve.new.session c.in-Some.ensures.some
+    c.in_ok-serve.ensures
     ∙ ap (λ f. flow_after f (Act c.args.client Up)) c.self.view_is
