@@ -7,6 +7,7 @@ ghost use Rattle.std.specs.Option.{ForSome};
 ghost use Rattle.std.specs.Vec.{vec_len, vec_capacity};
 ghost use Rattle.dp_board.specs.declared.act.UserAct.{UserAct as UserActOf};
 ghost use Rattle.dp_board.specs.Replay.{replay};
+ghost use Rattle.dp_board.specs.Table.{oldest_in};
 ghost use Rattle.dp_rollback.specs.Kept.{drawn_among, commands_among};
 ghost use Rattle.dp_trailing.specs.Trailing.{Trails, IsHeldNext, marked_later, with_act};
 ghost use Rattle.dp_trailing.specs.Trailing.{drawn_to_reach};
@@ -278,12 +279,13 @@ impl<B: Board> TrailingBoard<B> {
         room: Vec<KeptAct<B::Op>>,
     ) -> Result<Vec<KeptAct<B::Op>>, AllocError>
         requires { room.items ≡ [] }
-        ensures { IfOk result (λ given. (board blank : B) (depth : ℕ)
+        ensures trails { IfOk result (λ given. (board blank : B) (depth : ℕ)
             (acts : List (UserActOf B.Op))
             → Trails B.drawn blank depth acts (record self.old { board = board })
             → Trails B.drawn blank depth acts (record self.new {
               board = fold B.drawn board (drawn_among given.items);
             })) }
+        ensures none_before_reach { OnOk result (oldest_in self.new.table ≤ self.new.base) }
     {
         let first = self.table.oldest();
         let settled = let_go(&mut self.base, &mut self.kept, &mut self.limit, first)?;

@@ -2,8 +2,8 @@ use Rattle.std.proofs.Common.{◌∙◌}
 use Rattle.dp_trailing.proofs.TrailingLemmas.{given-apart}
 use Rattle.dp_trailing.proofs.trailing.TrailingBoard.give_settled.Goals as goal
 
-pub returns : goal.returns
-returns g c =
+pub returns-clause-trails : goal.returns-clause-trails
+returns-clause-trails g c =
     let was = c.self.inside in
     given-apart g.B.Board.drawn c.args.self.now
     (record { board = was.board; table = was.table; base = was.base; kept = was.kept.items })
