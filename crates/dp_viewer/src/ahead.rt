@@ -31,8 +31,11 @@ use std::mem::replace;
 use std::sync::ledger::Ledger;
 use std::thread::{Threads, join_mut};
 
-/// How many entries are read while those before them are drawn. There are fewer if some of them
-/// carry lists of pixels or of dabs.
+/// How many entries the first batch has. There are fewer if some of them carry lists of pixels or
+/// of dabs.
+const FIRST: usize = 1024;
+
+/// How many entries a batch has at most. Each one has twice as many as the one before, up to this.
 const BATCH: usize = 16384;
 
 /// How many items of a list weigh as much as an entry without one.
@@ -146,13 +149,13 @@ fn weight(entry: &Entry) -> usize {
     1 + items / ITEMS
 }
 
-/// Reads a batch of entries, and holds their acts.
-fn read_batch<I: Source>(alloc: Global, input: &mut I, ahead: &mut Ahead) -> Batch
+/// Reads a batch of `count` entries, and holds their acts.
+fn read_batch<I: Source>(alloc: Global, input: &mut I, ahead: &mut Ahead, count: usize) -> Batch
     ensures read { EndsBatch (I.left input.old) (I.left input.new) (I.faults input.old)
         (I.faults input.new) ahead.old ahead.new result }
     ensures later { I.faults input.old ≤ I.faults input.new }
 {
-    let mut left = BATCH;
+    let mut left = count;
     'entries: loop {
         let entry = match ahead.reader.next(alloc, input) {
             Ok(Some(entry)) => entry,
@@ -257,12 +260,14 @@ impl Behind {
     }
 }
 
-/// Draws acts, in another thread if one can be made, and meanwhile reads a batch of entries.
+/// Draws acts, if there are any, and meanwhile reads a batch of `count` entries. Another thread
+/// draws them, if one can be made.
 fn read_beside<'a, R: Threads + Sync, I: Source, G: Gate, D: Ledger + Send, T: Ledger + Send>(
     crew: &'a Crew<'a, R, G>,
     input: &mut I,
     ahead: &mut Ahead,
     behind: &mut Behind,
+    count: usize,
     draws: &mut Steps<D>,
     tiles: &mut Steps<T>,
 ) -> Batch
@@ -273,6 +278,9 @@ fn read_beside<'a, R: Threads + Sync, I: Source, G: Gate, D: Ledger + Send, T: L
     ensures later { I.faults input.old ≤ I.faults input.new }
 {
     let alloc = crew.alloc;
+    if behind.ready.as_slice().is_empty() {
+        return read_batch(alloc, input, ahead, count);
+    }
     let (_, batch) = join_mut(
         crew.rt,
         &mut ||
@@ -283,7 +291,7 @@ fn read_beside<'a, R: Threads + Sync, I: Source, G: Gate, D: Ledger + Send, T: L
             ensures { EndsBatch (I.left input.entry.now) (I.left input.exit.now)
                 (I.faults input.entry.now) (I.faults input.exit.now) ahead.entry.now ahead.exit.now
                 result × (I.faults input.entry.now ≤ I.faults input.exit.now) }
-        { read_batch(alloc, input, ahead) },
+        { read_batch(alloc, input, ahead, count) },
     );
     batch
 }
@@ -328,8 +336,11 @@ pub(crate) fn read_ahead<
         ready,
         drawn: true,
     };
+    let mut next = FIRST;
     'batches: loop {
-        let marked = match read_beside(&crew, input, &mut ahead, &mut behind, draws, tiles) {
+        let count = next;
+        next = count.saturating_mul(2).min(BATCH);
+        let marked = match read_beside(&crew, input, &mut ahead, &mut behind, count, draws, tiles) {
             Batch::More { marked } => marked,
             Batch::Ended(end) => {
                 let end = end_after(end, behind.drawn);

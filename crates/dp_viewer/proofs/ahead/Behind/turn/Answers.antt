@@ -12,5 +12,5 @@ returns-then-marked c =
 
 pub returns-in_ok-ready : goal.returns-in_ok-ready
 returns-in_ok-ready c = rw c.if-marked.false (λ entries trails.
-    c.in_ok-ready.ensures c.args.self.now.board empty_board undo_depth
+    c.in_ok-ready.ensures.trails c.args.self.now.board empty_board undo_depth
     (map user_act_of (after_last is_mark entries)) trails)
