@@ -4,6 +4,7 @@
 mod keeper;
 mod log;
 mod memory;
+mod numbers;
 mod row;
 mod sure;
 

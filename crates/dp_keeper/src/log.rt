@@ -1,86 +1,92 @@
 //! Rows, one after another in one list of bytes.
 
-ghost use Rattle.std.specs.Prelude.{◌≡◌, ◌∷◌, ◌++◌, [], take, drop, OnOk, OnErr, IfOk};
+ghost use Rattle.std.specs.Prelude.{◌≡◌, ◌+◌, ◌<◌, ◌^◌, ◌∷◌, ◌++◌, [], length, take, drop};
+ghost use Rattle.std.specs.Prelude.{OnOk, OnErr, IfOk};
 ghost use Rattle.dp_keeper.specs.Log.{row_at, rows_from, log_end};
 
+use crate::numbers::Numbers;
 use crate::row::{Row, RowBytes, Rows};
 use dp_lists::{prefix_of, rest_of};
 use std::alloc::{AllocError, Global};
 use std::marker::Model;
 
-/// The number of a row, and where its bytes end.
-#[derive(Clone, Copy, Debug)]
-pub(crate) struct Mark {
-    pub(crate) n: u64,
-    pub(crate) end: usize,
-}
-
 /// Rows whose bytes lie one after another. Contracts see the rows.
 #[derive(Debug, Drop)]
 pub(crate) struct RowLog {
     bytes: Vec<u8>,
-    marks: Vec<Mark>,
+    /// Where the bytes of each row end.
+    ends: Vec<usize>,
+    numbers: Numbers,
 }
 
 impl Model for RowLog {
-    ghost use Rattle.std.specs.Prelude.{List, length};
+    ghost use Rattle.std.specs.Prelude.{◌≡◌, List, length};
     ghost use Rattle.dp_keeper.specs.declared.row.Row.{Row as Kept};
     ghost use Rattle.dp_keeper.specs.Log.{rows_from, RiseTo};
 
     ghost Value = { List Kept };
 
-    ghost view = { λ log. rows_from log.bytes.items 0 log.marks.items };
+    ghost view = { λ log. rows_from log.bytes.items log.numbers 0 0 log.ends.items };
 
-    ghost invariant = { λ log. RiseTo (length log.bytes.items) 0 log.marks.items };
+    ghost invariant = { λ log. RiseTo (length log.bytes.items) 0 log.ends.items
+        × (length log.ends.items ≡ length log.numbers) };
 }
 
 /// Where the last of these rows ends.
-fn log_end(marks: &[Mark]) -> usize
-    ensures { result ≡ log_end 0 marks.now }
+fn log_end(ends: &[usize]) -> usize
+    ensures { result ≡ log_end 0 ends.now }
 {
-    match marks.last() {
-        Some(mark) => mark.end,
+    match ends.last() {
+        Some(end) => *end,
         None => 0,
     }
 }
 
-/// A copy of the row of a mark, whose bytes begin at a place.
-fn row_at(alloc: Global, bytes: &[u8], start: usize, mark: Mark) -> Result<Row, AllocError>
-    ensures { IfOk result (λ row. row ≡ row_at bytes.now start mark) }
+/// A copy of the row of a number whose bytes lie between two places.
+fn row_at(alloc: Global, bytes: &[u8], start: usize, end: usize, n: u64) -> Result<Row, AllocError>
+    ensures { IfOk result (λ row. row ≡ row_at bytes.now start end n) }
 {
-    let bytes = prefix_of(rest_of(bytes, start), mark.end.saturating_sub(start));
+    let bytes = prefix_of(rest_of(bytes, start), end.saturating_sub(start));
     Ok(Row {
-        n: mark.n,
+        n,
         bytes: RowBytes::from_vec(bytes.to_vec(alloc)?),
     })
 }
 
-/// Adds copies of the rows of these marks, the first of which begins at a place, to a page.
+/// Adds copies of the rows that end at these places, the first of which begins at a place, to a
+/// page. Their numbers are those from an index on.
 fn put_rows(
     alloc: Global,
     bytes: &[u8],
+    numbers: &Numbers,
     from: usize,
-    marks: &[Mark],
+    at: usize,
+    ends: &[usize],
     page: &mut Rows,
 ) -> Result<(), AllocError>
-    ensures { OnOk result (page.new ≡ page.old ++ rows_from bytes.now from marks.now) }
+    requires { from + length ends.now < 2 ^ 64 }
+    ensures { OnOk result (page.new
+        ≡ page.old ++ rows_from bytes.now numbers.now from at ends.now) }
 {
-    let mut start = from;
-    for mark in marks {
-        page.push(row_at(alloc, bytes, start, *mark)?)?;
-        start = mark.end;
+    let mut index = from;
+    let mut start = at;
+    for end in ends {
+        page.push(row_at(alloc, bytes, start, *end, numbers.at(index))?)?;
+        start = *end;
+        index += 1;
     }
     Ok(())
 }
 
 impl RowLog {
-    /// No rows.
-    pub(crate) fn new(alloc: Global) -> RowLog
+    /// No rows. They take least memory if their numbers follow one another from this one on.
+    pub(crate) fn new(alloc: Global, first: u64) -> RowLog
         ensures { result ≡ [] }
     {
         RowLog {
             bytes: Vec::new(alloc),
-            marks: Vec::new(alloc),
+            ends: Vec::new(alloc),
+            numbers: Numbers::new(alloc, first),
         }
     }
 
@@ -93,12 +99,12 @@ impl RowLog {
         ensures ok { OnOk result (self.new ≡ self.old ++ row.now ∷ []) }
         ensures err { OnErr result (self.new ≡ self.old) }
     {
-        self.marks.reserve(1)?;
-        self.bytes.extend_from_slice(row.bytes.as_slice())?;
-        self.marks.push_reserved(Mark {
-            n: row.n,
-            end: self.bytes.len(),
-        });
+        let bytes = row.bytes.as_slice();
+        self.bytes.reserve(bytes.len())?;
+        self.ends.reserve(1)?;
+        self.numbers.push(row.n)?;
+        self.bytes.extend_from_slice(bytes)?;
+        self.ends.push_reserved(self.bytes.len());
         Ok(())
     }
 
@@ -111,8 +117,9 @@ impl RowLog {
     ) -> Result<(), AllocError>
         ensures { OnOk result (page.new ≡ page.old ++ take most (drop from self.now)) }
     {
-        let start = log_end(prefix_of(&self.marks, from));
-        let marks = prefix_of(rest_of(&self.marks, from), most);
-        put_rows(*self.bytes.allocator(), &self.bytes, start, marks, page)
+        let alloc = *self.bytes.allocator();
+        let start = log_end(prefix_of(&self.ends, from));
+        let ends = prefix_of(rest_of(&self.ends, from), most);
+        put_rows(alloc, &self.bytes, &self.numbers, from, start, ends, page)
     }
 }

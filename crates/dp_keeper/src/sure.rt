@@ -30,7 +30,7 @@ impl SureKeeper {
     pub fn new(rows: Rows) -> SureKeeper
         ensures { result ≡ rows }
     {
-        let log = RowLog::new(rows.allocator());
+        let log = RowLog::new(rows.allocator(), rows.as_slice().len() as u64);
         SureKeeper { first: rows, log }
     }
 

@@ -6,16 +6,18 @@ use Rattle.dp_keeper.proofs.log.RowLog.put_page.Goals as goal
 pub returns : goal.returns
 returns c =
     let bytes = c.self.inside.bytes.items in
-    let marks = c.self.inside.marks.items in
+    let numbers = c.self.inside.numbers in
+    let ends = c.self.inside.ends.items in
+    let from = c.args.from in
     subst (λ rows. OnOk c.put_rows.result (c.put_rows.new.page ≡ c.args.page.now ++ rows))
-    (ap (λ b. rows_from b c.log_end-start.result c.prefix_of-marks.result.now)
+    (ap (λ b. rows_from b numbers from c.log_end-start.result c.prefix_of-ends.result.now)
     c.deref-3.ensures.value
-    ∙ ap (λ at. rows_from bytes at c.prefix_of-marks.result.now)
+    ∙ ap (λ at. rows_from bytes numbers from at c.prefix_of-ends.result.now)
     (c.log_end-start.ensures
-    ∙ ap (log_end 0) (c.prefix_of.ensures ∙ ap (take c.args.from) c.deref.ensures.value))
-    ∙ ap (rows_from bytes (log_end 0 (take c.args.from marks)))
-    (c.prefix_of-marks.ensures
-    ∙ ap (take c.args.most) (c.rest_of.ensures ∙ ap (drop c.args.from) c.deref-2.ensures.value))
-    ∙ rows-cut bytes c.args.from c.args.most marks
-    ∙ ap (λ rows. take c.args.most (drop c.args.from rows)) c.self.view_is)
+    ∙ ap (log_end 0) (c.prefix_of.ensures ∙ ap (take from) c.deref.ensures.value))
+    ∙ ap (rows_from bytes numbers from (log_end 0 (take from ends)))
+    (c.prefix_of-ends.ensures
+    ∙ ap (take c.args.most) (c.rest_of.ensures ∙ ap (drop from) c.deref-2.ensures.value))
+    ∙ rows-cut bytes numbers from c.args.most ends
+    ∙ ap (λ rows. take c.args.most (drop from rows)) c.self.view_is)
     c.put_rows.ensures
