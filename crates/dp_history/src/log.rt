@@ -15,8 +15,9 @@ use std::marker::Model;
 use std::mem::replace;
 use std::sync::Arc;
 
-/// A segment of as many bytes is full.
-const SEGMENT_BYTES: usize = 1 << 17;
+/// A segment of as many bytes is full. If its last frame is no longer than what a page has beyond
+/// that, one page shares the whole of it.
+const SEGMENT_BYTES: usize = PAGE_BYTES - (1 << 12);
 
 /// A full segment, which doesn't change any more. It is seen as its frames.
 #[derive(Drop)]
@@ -151,7 +152,7 @@ impl FrameLog {
             return;
         }
         let count = self.last.len();
-        let next = Segment::with_room(alloc, SEGMENT_BYTES);
+        let next = Segment::with_room(alloc, PAGE_BYTES);
         match Arc::new(alloc, replace(&mut self.last, next)) {
             Ok(frames) => {
                 self.sealed.push_reserved(Sealed { frames, count });
