@@ -8,14 +8,12 @@ use Rattle.std.proofs.lemmas.Int.{ints}
 use Rattle.std.proofs.lemmas.Bool.{cases_lt, cases_Bool, cond-false, cond-true, false≢true}
 use Rattle.std.proofs.lemmas.Bool.{false_from_ne_true, and_parts}
 use Rattle.std.proofs.lemmas.Bool.{le-leb, lt-ltb, leb-true, ltb-true}
-use Rattle.std.proofs.lemmas.List.{take_more, take_all, take-append-drop, length-replicate}
-use Rattle.std.proofs.lemmas.List.{replicate-append-replicate}
-use Rattle.std.proofs.Math.Seq.{take-append-add, take-append_seam}
+use Rattle.std.proofs.lemmas.List.{take_more, take_all, take-append-drop}
 use Rattle.std.proofs.lemmas.List.Sums.{fold-append}
 use Rattle.std.proofs.lemmas.Bool.{eqb-true}
 use Rattle.std.proofs.lemmas.List.{nil_from_length}
 use Rattle.dp_blend.specs.Color.{Channels, clear, of_argb}
-use Rattle.dp_blend.specs.Blending.{blend}
+use Rattle.dp_blend.specs.Blending.{blend, row_filled}
 use Rattle.dp_blend.specs.declared.modes.Mode.{Mode}
 use Rattle.dp_blend.specs.declared.modes.Mode.TheVariants as modes
 use Rattle.dp_blend.specs.Canvas.{pixel_at}
@@ -312,29 +310,18 @@ dab_packed d low high x y shape mode at_x few_x at_y few_y size opacity shaped f
 
 -- ---- tiles of a colour
 
--- a tile that was filled with a colour
-pub filled : (p : Channels) (new : List Channels) (count : ℕ) → count ≡ 4096
-    → new ≡ replicate count p → new ≡ tile_of p
-unfolding tile_of
-filled p new count all is = is ∙ ap (λ (n : ℕ). replicate n p) all
+-- pixels that are all replaced by one colour
+pub all_replaced : (p : Channels) (pixels : List Channels)
+    → row_filled modes.Replace p pixels ≡ replicate (length pixels) p
+all_replaced p [] = refl
+all_replaced p (q ∷ pixels) = ap (λ (l : List Channels). p ∷ l) (all_replaced p pixels)
 
--- one more block of a tile has a colour
-pub block_more : (p : Channels) (n m : ℕ) (now prefix next rest : List Channels)
-    → prefix ≡ replicate n p → next ≡ replicate 512 p → m ≡ n + 512
-    → now ≡ prefix ++ (next ++ rest) → take m now ≡ replicate m p
-block_more p n m now prefix next rest done copied more is =
-    let long : length prefix ≡ n = ap length done ∙ length-replicate n p in
-    let block : length next ≡ 512 = ap length copied ∙ length-replicate 512 p in
-    let whole : n + 512 ≡ length prefix + 512 = omega (arith, long) in
-    ap (λ (l : List Channels). take m l) is
-    ∙ ap (λ (i : ℕ). take i (prefix ++ (next ++ rest))) (more ∙ whole)
-    ∙ take-append-add prefix (next ++ rest) 512
-    ∙ ap (λ (l : List Channels). prefix ++ l)
-    (ap (λ (i : ℕ). take i (next ++ rest)) (sym block) ∙ take-append_seam next rest)
-    ∙ ap (λ (l : List Channels). l ++ next) done
-    ∙ ap (λ (l : List Channels). replicate n p ++ l) copied
-    ∙ replicate-append-replicate n 512 p
-    ∙ ap (λ (i : ℕ). replicate i p) (sym more)
+-- a tile whose pixels are all replaced
+pub tile_replaced : (p : Channels) (old new : List Channels) → length old ≡ 4096
+    → new ≡ row_filled modes.Replace p old → new ≡ tile_of p
+unfolding tile_of
+tile_replaced p old new count is =
+    is ∙ all_replaced p old ∙ ap (λ (n : ℕ). replicate n p) count
 
 -- ---- rows that are filled
 

@@ -17,7 +17,7 @@ use crate::lists::TileLists;
 use crate::op::PackedOp;
 use crate::put::TileRun;
 use crate::sheet::Sheet;
-use dp_blend::{Mode, Pixel, blend, of_argb};
+use dp_blend::{Mode, Pixel, blend, of_argb, row_fill};
 use dp_msg_draw::Draw;
 use dp_pixels::{Region, draw_region};
 use dp_tile::{SIDE, TileChange, TilePainter};
@@ -247,32 +247,12 @@ pub fn show_ops(
     None
 }
 
-/// How many pixels of a tile are filled one by one.
-const BLOCK: usize = 512;
-
-/// Gives each pixel of a tile this colour. The first ones get it one by one, and then they are
-/// copied, which is faster.
+/// Gives each pixel of a tile this colour.
 fn fill_tile(color: Pixel, pixels: &mut [Pixel])
     requires { length pixels.old ≡ 4096 }
     ensures { pixels.new ≡ tile_of color }
 {
-    let (block, _rest) = pixels.split_at_mut(BLOCK);
-    block.fill(color);
-    for k in 1..SIDE * SIDE / BLOCK {
-        let (done, rest) = pixels.split_at_mut(k * BLOCK);
-        copy_block(done, rest);
-    }
-}
-
-/// Copies the first pixels of a row over the first ones of another, as many as are a block.
-fn copy_block(from: &[Pixel], to: &mut [Pixel])
-    requires from { BLOCK ≤ length from.now }
-    requires to { BLOCK ≤ length to.old }
-    ensures { to.new ≡ take BLOCK from.now ++ drop BLOCK to.old }
-{
-    let (first, _others) = from.split_at(BLOCK);
-    let (block, _rest) = to.split_at_mut(BLOCK);
-    block.copy_from_slice(first);
+    row_fill(Mode::Replace, color, pixels);
 }
 
 /// After how many operations a tile of this colour is known to be of one, and that colour.
