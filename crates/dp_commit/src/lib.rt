@@ -11,7 +11,7 @@ mod supply;
 
 pub use connections::{Roster, connection, is_flagged, next_open, open_connection};
 pub use live::LiveEpoch;
-pub use opening::add_carried;
+pub use opening::{add_carried, carry};
 pub use room::reserve;
 pub use sending::Sending;
 pub use supply::{Supply, make_entries};

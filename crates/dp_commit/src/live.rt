@@ -1,7 +1,8 @@
 //! The live epoch, and how an event is kept in it: in its history, with its rights and its frames.
 
 ghost use Rattle.std.specs.Prelude.{◌≡◌, ◌+◌, ◌-◌, ◌^◌, ◌<◌, ◌≤◌, ◌∷◌, ◌++◌, [], List, Some};
-ghost use Rattle.std.specs.Prelude.{length, option_to_list, vec_len, vec_capacity, All, map, OnOk};
+ghost use Rattle.std.specs.Prelude.{length, option_to_list, vec_len, vec_capacity, All, map, IfOk};
+ghost use Rattle.std.specs.Prelude.{OnOk};
 ghost use Rattle.dp_messages.specs.declared.message.Entry.{Entry as Piece};
 ghost use Rattle.dp_acl.specs.Table.{StandsFor};
 ghost use Rattle.dp_epochs.specs.declared.event.Event.{Event as Kept};
@@ -152,19 +153,36 @@ fn place(
 }
 
 impl LiveEpoch {
-    /// The first epoch, which opens so.
-    pub fn new(alloc: Global, opening: Opening) -> LiveEpoch
-        ensures number { result.number ≡ 0 }
-        ensures history { result.history.items ≡ opening.live.items }
-        ensures frames { (history : List Piece) → AreMadeOf result.frames history }
-        ensures rights { result.rights ≡ opening.rights.value }
+    /// The first epoch, which opens with this entry.
+    pub fn new(alloc: Global, first: Entry) -> Result<LiveEpoch, AllocError>
+        ensures number { IfOk result (λ live. live.number ≡ 0) }
+        ensures history { IfOk result (λ live.
+            map (entry_in []) live.history.items ≡ first ∷ []) }
+        ensures said { IfOk result (λ live. All (IsIn []) live.history.items) }
+        ensures frames { IfOk result (λ live. (history : List Piece)
+            → AreMadeOf live.frames history) }
+        ensures stands { IfOk result (λ live. StandsFor live.rights (first ∷ [])) }
     {
-        LiveEpoch {
+        let mut opening = Opening::new(alloc)?;
+        opening.add(first)?;
+        Ok(LiveEpoch {
             number: 0,
             history: opening.live,
             frames: HistoryFrames::new(alloc),
             rights: Box::into_inner(opening.rights),
-        }
+        })
+    }
+
+    /// Makes the frames of the entries that have none yet, as far as memory goes.
+    pub fn write_frames(&mut self, journal: &[Event])
+        requires { All (IsIn journal.now) self.old.history.items }
+        ensures made { AreMadeOf self.old.frames
+            (map (entry_in journal.now) self.old.history.items)
+            → AreMadeOf self.new.frames (map (entry_in journal.now) self.old.history.items) }
+        ensures others { self.new ≡ record self.old { frames = self.new.frames } }
+    {
+        let alloc = *self.history.allocator();
+        self.frames.write(alloc, journal, &self.history);
     }
 
     /// Makes the memory ready that any one event needs.

@@ -1,9 +1,12 @@
 //! What goes over into the next epoch.
 
 ghost use Rattle.std.specs.Prelude.{◌≡◌, ◌≤◌, ◌++◌, ℕ, List, true, is_some, map, All, OnOk};
-ghost use Rattle.std.specs.Prelude.{slice_get, slice_index_or};
+ghost use Rattle.std.specs.Prelude.{slice_get, slice_index_or, length, IfOk};
 ghost use Rattle.std.specs.List.{filter, filter_map};
 ghost use Rattle.dp_messages.specs.declared.message.Entry.{Entry as Piece};
+ghost use Rattle.dp_msg_meta.specs.Fields.{RiseFrom};
+ghost use Rattle.dp_acl.specs.Carried.{carried};
+ghost use Rattle.dp_acl.specs.Table.{StandsFor};
 ghost use Rattle.dp_acl.specs.Opening.{server_entry, command_entry, last_join, goes_over};
 ghost use Rattle.dp_epochs.specs.State.{user_ids};
 ghost use Rattle.dp_history.specs.Users.{mark, AreJoined};
@@ -11,10 +14,28 @@ ghost use Rattle.dp_history.specs.Items.{join_of, IsIn, IsPart, commands_in, ent
 ghost use Rattle.dp_history.specs.Openings.{Holds};
 
 use crate::connections::Roster;
+use dp_acl::Rights;
 use dp_epochs::Event;
-use dp_history::{HistoryItem, Opening};
+use dp_history::{HistoryItem, Opening, present_ids};
 use dp_msg_meta::Meta;
-use std::alloc::AllocError;
+use std::alloc::{AllocError, Global};
+
+/// How many users are present, and the messages on rights that go over with them.
+pub fn carry(
+    alloc: Global,
+    present: &[bool; 256],
+    rights: &Rights,
+) -> Result<(usize, Vec<Meta>), AllocError>
+    requires { RiseFrom 1 (filter (mark present.now) user_ids) }
+    ensures users { IfOk result (λ over.
+        over.0 ≡ length (filter (mark present.now) user_ids)) }
+    ensures metas { IfOk result (λ over. (history : List Piece) → StandsFor rights.now history
+        → over.1.items ≡ carried history (filter (mark present.now) user_ids)) }
+{
+    let present = present_ids(alloc, present)?;
+    let metas = rights.carry(&present)?;
+    Ok((present.as_slice().len(), metas))
+}
 
 /// Adds to an opening what goes over: the Joins of the users who are present, these messages on
 /// rights, the commands of these parts, and those of these entries that a reset may keep. Memory

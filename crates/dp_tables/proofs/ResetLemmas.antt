@@ -5,7 +5,7 @@ use Rattle.std.proofs.Common.{Option, None, Some, refl, sym, ap, subst, ◌∙�
 use Rattle.std.proofs.Common.{length-append}
 use Rattle.std.specs.List.{filter, filter_map, cons_option, range_with_len, sum_by}
 use Rattle.std.specs.Option.{option_map}
-use Rattle.std.proofs.lemmas.Bool.{cond_both, cases_Bool}
+use Rattle.std.proofs.lemmas.Bool.{cond_both, cases_Bool, false≢true}
 use Rattle.std.proofs.lemmas.Bool.Decides.{nat_tests}
 use Rattle.std.proofs.Math.Seq.{drop-length}
 use Rattle.std.proofs.lemmas.List.{length-map, drop-map, length-drop}
@@ -300,4 +300,4 @@ frames-kept s t are e (Reopened conn c) (Opens opened) old new is keeps made =
     subst (AreMadeOf new) whole (keeps before
     (sym (length-map opened.live.items (entry_in t.journal)) ∙ ap length is.1.entries
     ∙ sym (ap length whole)))
-frames-kept s t are e effect (Opens opened) old new is keeps made = cc
+frames-kept s t are e effect (Opens opened) old new is keeps made = absurd (false≢true is.0)

@@ -1,6 +1,6 @@
 -- When tables are those of a state.
 use Rattle.std.proofs.Common.{◌≡◌, ℕ, ◌+◌, ◌-◌, ◌*◌, ◌<◌, ◌≤◌, Bool, true, false, cond, not, nat_lt}
-use Rattle.std.proofs.Common.{nat_le, if◌then◌else◌, is_some, List, [], ◌∷◌, ◌++◌, length, set, All}
+use Rattle.std.proofs.Common.{nat_le, if◌then◌else◌, is_some, List, [], ◌∷◌, ◌++◌, length, set, map, All}
 use Rattle.std.proofs.Common.{Option, None, Some, refl, sym, ap, subst, ◌∙◌, ⊎_elim, arith}
 use Rattle.std.proofs.Common.{length-append}
 use Rattle.std.specs.Prelude.{slice_index_or, slice_set, vec_len, vec_capacity}
@@ -36,9 +36,7 @@ use Rattle.dp_epochs.specs.Past.{Past, state_after, state_of, kept, refused}
 use Rattle.dp_epochs.specs.Laws.{ShutBefore, shut_by}
 use Rattle.dp_epochs.proofs.OpenConnections.{open_is_found}
 use Rattle.dp_history.specs.Made.{AreMadeOf}
-use Rattle.dp_history.specs.declared.opening.Opening.{Opening}
-use Rattle.dp_history.specs.Openings.{Holds}
-use Rattle.dp_history.specs.Items.{join_of, entry_in, IsPart}
+use Rattle.dp_history.specs.Items.{join_of, entry_in, IsIn, IsPart}
 use Rattle.dp_history.specs.Users.{mark, IsJoinedBy, AreJoined}
 use Rattle.dp_history.proofs.Ranges.{lists-user, find_user-passes}
 use Rattle.dp_commit.specs.declared.supply.Supply.{Supply}
@@ -292,21 +290,22 @@ no-marks n user =
     (cases_lt user n)
 
 -- the tables of a session to which nothing has come
-pub tables-first : (t : Inside) (begun : Opening) → Holds [] begun first_state.live
+pub tables-first : (t : Inside)
     → t.journal.items ≡ [] → t.shut.items ≡ [] → t.roster.connections.items ≡ []
     → t.roster.quiet.items ≡ []
-    → t.live.history.items ≡ begun.live.items → t.row_bytes ≡ 0
-    → t.live.rights ≡ begun.rights.value → t.roster.present ≡ replicate 256 false
+    → map (entry_in []) t.live.history.items ≡ first_state.live
+    → All (IsIn []) t.live.history.items → t.row_bytes ≡ 0
+    → StandsFor t.live.rights first_state.live → t.roster.present ≡ replicate 256 false
     → t.live.number ≡ 0 → t.roster.opens ≡ replicate 256 0 → t.sending.owner ≡ None
     → t.sending.place ≡ None → t.sending.parts.items ≡ [] → t.sending.part_bytes ≡ 0
     → ((history : List Entry) → AreMadeOf t.live.frames history) → AreTables t
-tables-first t begun holds ej es ec eq el eb er ep ee eo eu eh ek ez made =
+tables-first t ej es ec eq entries said eb stands ep ee eo eu eh ek ez made =
     let first : Seen = record {
       journal = [];
       connections = [];
       epoch = 0;
-      live = begun.live.items;
-      rights = begun.rights.value;
+      live = t.live.history.items;
+      rights = t.live.rights;
       present = t.roster.present;
       opens = t.roster.opens;
       owner = None;
@@ -331,9 +330,9 @@ tables-first t begun holds ej es ec eq el eb er ep ee eo eu eh ek ez made =
               none = λ no_one. refl;
             };
             table = refl;
-            entries = holds.entries;
-            said = holds.said;
-            stands = holds.stands;
+            entries = entries;
+            said = said;
+            stands = stands;
             ids = ap length ep ∙ length-replicate 256 false;
             marks = λ user small. sym (ap (λ b. cond {A = ℕ} b 1 0)
                 (ap (λ p. mark p user) ep ∙ no-marks 256 user));

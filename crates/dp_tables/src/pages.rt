@@ -149,9 +149,6 @@ impl Tables {
     pub fn write_frames(&mut self)
         ensures { self.new ≡ self.old }
     {
-        let alloc = self.allocator();
-        self.live
-            .frames
-            .write(alloc, &self.journal, &self.live.history);
+        self.live.write_frames(&self.journal);
     }
 }

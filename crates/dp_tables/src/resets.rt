@@ -30,11 +30,11 @@ ghost use Rattle.dp_history.specs.Openings.{Holds};
 ghost use Rattle.dp_tables.specs.Opened.{opening_in};
 
 use crate::tables::Tables;
-use dp_commit::add_carried;
+use dp_commit::{add_carried, carry};
 use dp_epochs::{
     Connection, Decision, epochs_are_few, histories_are_short, openings, present_users_rise,
 };
-use dp_history::{HistoryItem, Opening, count_kept, present_ids};
+use dp_history::{HistoryItem, Opening, count_kept};
 use dp_lists::rest_of;
 use dp_messages::{Entry, Msg};
 use dp_msg_draw::Draw;
@@ -175,9 +175,8 @@ impl Tables {
             ≡ carried (state_in self.now).live (present_users (state_in self.now))) }
     {
         present_users_rise();
-        let present = present_ids(self.allocator(), &self.roster.present)?;
-        let metas = self.live.rights.carry(&present)?;
-        Ok((present.as_slice().len(), metas))
+        let over = carry(self.allocator(), &self.roster.present, &self.live.rights)?;
+        Ok(over)
     }
 
     /// Fills an opening with the mark of the next epoch, which says how many entries stand after

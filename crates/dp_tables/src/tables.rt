@@ -10,7 +10,6 @@ ghost use Rattle.dp_tables.specs.SessionLog.{state_in};
 use crate::resets::mark;
 use dp_commit::{LiveEpoch, Roster, Sending, connection, next_open, open_connection, reserve};
 use dp_epochs::{Connection, Event, Place, ShutAt, histories_are_short};
-use dp_history::Opening;
 use dp_messages::Msg;
 use std::alloc::{AllocError, Global};
 use std::marker::Model;
@@ -52,15 +51,14 @@ impl Tables {
         ensures shut { IfOk result (λ tables. tables.shut ≡ []) }
         ensures quiet { IfOk result (λ tables. tables.quiet ≡ []) }
     {
-        let mut opening = Opening::new(alloc)?;
-        opening.add(mark(0, 0))?;
+        let live = LiveEpoch::new(alloc, mark(0, 0))?;
         Ok(Tables {
             journal: Vec::new(alloc),
             row_bytes: 0,
             shut: Vec::new(alloc),
             roster: Roster::new(alloc),
             sending: Sending::new(alloc),
-            live: LiveEpoch::new(alloc, opening),
+            live,
         })
     }
 

@@ -9,23 +9,20 @@ use Rattle.dp_tables.proofs.tables.Tables.carry.Goals as goal
 
 pub carry-requires : goal.carry-requires
 carry-requires c =
-    let t = c.self.inside in
     let s = state_in c.args.self.now in
-    let are = of-ledger t c.args.self.now c.self.invariant c.self.view_is in
-    subst (RiseFrom 1) (sym (c.in_ok-present.ensures ∙ present-is s (seen t) are))
+    let are = of-ledger c.self.inside c.args.self.now c.self.invariant c.self.view_is in
+    subst (RiseFrom 1) (sym (present-is s (seen c.self.inside) are))
     (c.present_users_rise.ensures s)
 
 pub returns-clause-users : goal.returns-clause-users
 returns-clause-users c =
-    let t = c.self.inside in
-    let s = state_in c.args.self.now in
-    let are = of-ledger t c.args.self.now c.self.invariant c.self.view_is in
-    ap length (c.as_slice.ensures.value ∙ c.in_ok-present.ensures ∙ present-is s (seen t) are)
+    let are = of-ledger c.self.inside c.args.self.now c.self.invariant c.self.view_is in
+    c.in_ok-over.ensures.users
+    ∙ ap length (present-is (state_in c.args.self.now) (seen c.self.inside) are)
 
 pub returns-clause-metas : goal.returns-clause-metas
 returns-clause-metas c =
-    let t = c.self.inside in
     let s = state_in c.args.self.now in
-    let are = of-ledger t c.args.self.now c.self.invariant c.self.view_is in
-    c.in_ok-metas.ensures s.live are.stands
-    ∙ ap (carried s.live) (c.in_ok-present.ensures ∙ present-is s (seen t) are)
+    let are = of-ledger c.self.inside c.args.self.now c.self.invariant c.self.view_is in
+    c.in_ok-over.ensures.metas s.live are.stands
+    ∙ ap (carried s.live) (present-is s (seen c.self.inside) are)
