@@ -1,15 +1,16 @@
 //! The connections of a session, and how an event is kept in them.
 
-ghost use Rattle.std.specs.Prelude.{◌≡◌, ◌-◌, ◌<◌, ◌^◌, [], false, length, OnOk};
+ghost use Rattle.std.specs.Prelude.{◌≡◌, ◌-◌, ◌<◌, ◌^◌, [], false, length, IfOk, OnOk};
 ghost use Rattle.std.specs.Prelude.{replicate, vec_len, vec_capacity};
 ghost use Rattle.dp_epochs.specs.Effects.{connections_at};
-ghost use Rattle.dp_epochs.specs.State.{connection_in, open_in, next_open};
+ghost use Rattle.dp_epochs.specs.State.{connection_in, is_name, open_in, next_open};
 ghost use Rattle.dp_history.specs.Users.{mark};
 ghost use Rattle.dp_commit.specs.Marks.{IsThere, marks_after, opens_after, quiet_after, closed_in};
 ghost use Rattle.dp_commit.specs.Marks.{unmarked, flagged};
 ghost use Rattle.dp_commit.specs.Room.{SameRoster};
 
 use dp_epochs::{Connection, Effect, Ending, Place};
+use dp_history::name_text;
 use std::alloc::{AllocError, Global};
 
 /// Who is there: the connections of a session, and what is noted beside them.
@@ -167,4 +168,11 @@ impl Roster {
             self.quiet[conn as usize - 1] = true;
         }
     }
+}
+
+/// Whether these bytes are a name.
+pub fn is_named(alloc: Global, name: &[u8]) -> Result<bool, AllocError>
+    ensures { IfOk result (λ named. named ≡ is_name name.now) }
+{
+    Ok(name_text(alloc, name)?.is_some())
 }

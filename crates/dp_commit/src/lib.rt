@@ -9,9 +9,9 @@ mod room;
 mod sending;
 mod supply;
 
-pub use connections::{Roster, connection, is_flagged, next_open, open_connection};
+pub use connections::{Roster, connection, is_flagged, is_named, next_open, open_connection};
 pub use live::LiveEpoch;
-pub use opening::{add_carried, carry};
+pub use opening::{add_carried, carry, count_after};
 pub use room::reserve;
 pub use sending::Sending;
-pub use supply::{Supply, make_entries};
+pub use supply::{Supply, make_entries, mark};

@@ -1,7 +1,7 @@
 //! What goes over into the next epoch.
 
-ghost use Rattle.std.specs.Prelude.{◌≡◌, ◌≤◌, ◌++◌, ℕ, List, true, is_some, map, All, OnOk};
-ghost use Rattle.std.specs.Prelude.{slice_get, slice_index_or, length, IfOk};
+ghost use Rattle.std.specs.Prelude.{◌≡◌, ◌+◌, ◌^◌, ◌<◌, ◌≤◌, ◌++◌, ℕ, List, true, is_some, map};
+ghost use Rattle.std.specs.Prelude.{All, OnOk, slice_get, slice_index_or, length, IfOk};
 ghost use Rattle.std.specs.List.{filter, filter_map};
 ghost use Rattle.dp_messages.specs.declared.message.Entry.{Entry as Piece};
 ghost use Rattle.dp_msg_meta.specs.Fields.{RiseFrom};
@@ -68,4 +68,12 @@ pub fn add_carried(
     opening.add_commands(parts)?;
     opening.add_kept(journal, items, count)?;
     Ok(())
+}
+
+/// How many entries stand after a mark: those on users, on rights, of commands, and those kept.
+pub fn count_after(users: usize, metas: usize, parts: usize, kept: usize) -> u32
+    requires { users + metas + parts + kept < 2 ^ 32 }
+    ensures { result ≡ users + metas + parts + kept }
+{
+    (users + metas + parts + kept) as u32
 }

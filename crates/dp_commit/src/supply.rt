@@ -4,6 +4,8 @@ ghost use Rattle.std.specs.Prelude.{◌≡◌, ◌++◌, List, Some, false, opti
 ghost use Rattle.dp_epochs.specs.Effects.{own_message, entries_of, IsEffect};
 ghost use Rattle.dp_epochs.specs.State.{filtered_entry, next_owner, State};
 ghost use Rattle.dp_epochs.specs.declared.event.Event.{Event as Kept};
+ghost use Rattle.dp_acl.specs.Opening.{server_entry};
+ghost use Rattle.dp_msg_meta.specs.declared.message.Meta.TheVariants.{ResetMark};
 ghost use Rattle.dp_history.specs.Items.{IsSay};
 ghost use Rattle.dp_commit.specs.Placed.{IsSupply, opens_epoch, own_entries, unboxed};
 
@@ -122,5 +124,15 @@ pub fn make_entries(alloc: Global, event: &Event, effect: Effect) -> Result<Supp
             first: None,
             second: None,
         }),
+    }
+}
+
+/// The mark of an epoch that opens with this number of entries after it.
+pub fn mark(epoch: u32, carried: u32) -> Entry
+    ensures { result ≡ server_entry (ResetMark epoch carried) }
+{
+    Entry {
+        user: 0,
+        msg: Msg::Meta(Meta::ResetMark { epoch, carried }),
     }
 }

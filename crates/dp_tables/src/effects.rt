@@ -12,20 +12,13 @@ ghost use Rattle.dp_tables.specs.Ready.{IsReady};
 use crate::ready::Ready;
 use crate::tables::Tables;
 use dp_acl::operators_stay;
-use dp_commit::{Supply, make_entries};
+use dp_commit::{Supply, is_named, make_entries};
 use dp_epochs::{Connection, Decision, Effect, Event, Reply, decisions_have_effects, make_row};
-use dp_history::{first_operator, free_id, name_text, next_operator};
+use dp_history::{first_operator, free_id, next_operator};
 use dp_keeper::{Row, RowBytes};
 use dp_messages::Msg;
 use dp_msg_meta::Control;
-use std::alloc::{AllocError, Global};
-
-/// Whether these bytes are a name.
-fn is_named(alloc: Global, name: &[u8]) -> Result<bool, AllocError>
-    ensures { IfOk result (λ named. named ≡ is_name name.now) }
-{
-    Ok(name_text(alloc, name)?.is_some())
-}
+use std::alloc::AllocError;
 
 impl Tables {
     /// Whether the connection has taken up the live epoch.

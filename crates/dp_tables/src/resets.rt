@@ -1,11 +1,11 @@
 //! Resets: who may send one, what becomes of its messages, and how it opens the next epoch.
 
-ghost use Rattle.std.specs.Prelude.{◌≡◌, ◌+◌, ◌^◌, ◌<◌, ◌≤◌, [], Some, false, is_some};
+ghost use Rattle.std.specs.Prelude.{◌≡◌, ◌+◌, ◌≤◌, [], Some, false, is_some};
 ghost use Rattle.std.specs.Prelude.{IfOk, OnOk, All, map, length, nat_le};
 ghost use Rattle.std.specs.List.{filter};
 ghost use Rattle.std.specs.Option.{option_map_or};
 ghost use Rattle.dp_acl.specs.Carried.{carried};
-ghost use Rattle.dp_acl.specs.Opening.{goes_over, opening, server_entry};
+ghost use Rattle.dp_acl.specs.Opening.{goes_over, opening};
 ghost use Rattle.dp_messages.specs.declared.message.Msg.TheVariants as msg;
 ghost use Rattle.dp_epochs.specs.State.{
   epoch_of,
@@ -21,7 +21,6 @@ ghost use Rattle.dp_epochs.specs.State.{
   Stream,
 };
 ghost use Rattle.dp_msg_draw.specs.declared.draw.Draw.{Draw as Drawn};
-ghost use Rattle.dp_msg_meta.specs.declared.message.Meta.TheVariants.{ResetMark};
 ghost use Rattle.dp_msg_meta.specs.declared.message.Control.TheVariants.{ResetBegin, ResetEnd};
 ghost use Rattle.dp_msg_meta.specs.declared.message.Control.TheVariants.{ResetFrom};
 ghost use Rattle.dp_tables.specs.SessionLog.{state_in};
@@ -30,13 +29,12 @@ ghost use Rattle.dp_history.specs.Openings.{Holds};
 ghost use Rattle.dp_tables.specs.Opened.{opening_in};
 
 use crate::tables::Tables;
-use dp_commit::{add_carried, carry};
+use dp_commit::{add_carried, carry, count_after, mark};
 use dp_epochs::{
     Connection, Decision, epochs_are_few, histories_are_short, openings, present_users_rise,
 };
 use dp_history::{HistoryItem, Opening, count_kept};
 use dp_lists::rest_of;
-use dp_messages::{Entry, Msg};
 use dp_msg_draw::Draw;
 use dp_msg_meta::Meta;
 use std::alloc::AllocError;
@@ -238,23 +236,5 @@ impl Tables {
         let kept = count_kept(&self.journal, items);
         let after = count_after(over.0, over.1.len(), self.sending.parts.len(), kept);
         self.open_with(after, &over.1, kept)
-    }
-}
-
-/// How many entries stand after a mark: those on users, on rights, of commands, and those kept.
-fn count_after(users: usize, metas: usize, parts: usize, kept: usize) -> u32
-    requires { users + metas + parts + kept < 2 ^ 32 }
-    ensures { result ≡ users + metas + parts + kept }
-{
-    (users + metas + parts + kept) as u32
-}
-
-/// The mark of an epoch that opens with this number of entries after it.
-pub(crate) fn mark(epoch: u32, carried: u32) -> Entry
-    ensures { result ≡ server_entry (ResetMark epoch carried) }
-{
-    Entry {
-        user: 0,
-        msg: Msg::Meta(Meta::ResetMark { epoch, carried }),
     }
 }

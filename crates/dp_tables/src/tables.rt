@@ -7,8 +7,9 @@ ghost use Rattle.dp_epochs.specs.State.{connection_of, open_connection};
 ghost use Rattle.dp_epochs.specs.State.{next_open, here};
 ghost use Rattle.dp_tables.specs.SessionLog.{state_in};
 
-use crate::resets::mark;
-use dp_commit::{LiveEpoch, Roster, Sending, connection, next_open, open_connection, reserve};
+use dp_commit::{
+    LiveEpoch, Roster, Sending, connection, mark, next_open, open_connection, reserve,
+};
 use dp_epochs::{Connection, Event, Place, ShutAt, histories_are_short};
 use dp_messages::Msg;
 use std::alloc::{AllocError, Global};
@@ -67,14 +68,7 @@ impl Tables {
         ensures journal { result.0.items ≡ self.journal }
         ensures shut { result.1.items ≡ self.shut }
     {
-        let Tables {
-            journal,
-            row_bytes: _,
-            shut,
-            roster: _,
-            sending: _,
-            live: _,
-        } = self;
+        let Tables { journal, shut, .. } = self;
         (journal, shut)
     }
 
