@@ -32,7 +32,7 @@ use Rattle.dp_ops.specs.Lists.{AddsMore, AllCount, HaveSame, HaveSameLists, IsCh
 use Rattle.dp_ops.specs.Lists.{IsFiled, IsFinished, IsInside, Lists, Waiting, list_at, listed_at}
 use Rattle.dp_ops.specs.declared.lists.Finish.TheVariants.{Drop, Keep}
 use Rattle.dp_ops.specs.Ops.{MayWait}
-use Rattle.dp_ops.specs.Lists.{IsNumbered, StandsOn, filed_at}
+use Rattle.dp_ops.specs.Lists.{IsNumbered, PutsMore, StandsOn, anywhere, filed_at, row_to}
 use Rattle.dp_ops.proofs.Drawn.{on_canvas}
 use Rattle.dp_ops.proofs.Ops.{fill_by, fill_facts}
 use Rattle.dp_ops.proofs.Waits.{inside_by, inside_facts}
@@ -395,3 +395,46 @@ is_filed among op change area old grown added kept few draws same counts adds ke
       ap (λ (l : Waiting). l.ops) (keeps.outside col row in_cols out
       ∙ adds.outside col row in_cols out ∙ same col row in_cols);
 }
+
+-- what was put on the one cell of an area was filed
+pub put_filed : (among : OnTile → Type 0) (op : Draw) (put change : ℤ → ℤ → Channels → Channels)
+    (area : CellArea) (old new : Lists) → area.right ≡ area.left + 1 → area.bottom ≡ area.top + 1
+    → ((t : OnTile) (x y : ℕ) (p : Channels) → among t → x < t.width → y < t.height
+    → change (pos x) (pos y) p ≡ pixel_drawn t.width t.height op (pos x) (pos y) p)
+    → ((x y : ℤ) (p : Channels) → change x y p ≡ put x y p)
+    → IsChangedOn (row_to area.top area.left (area.left + 1)) (PutsMore anywhere put) old new
+    → IsFiled among op area old new
+put_filed among op put change area old new one_col one_row draws same puts = record {
+  inside = λ t is_in is i j p in_x in_y on_x on_y.
+      let x = t.col * 64 + i in
+      let y = t.row * 64 + j in
+      let under = ops_at t (listed_at old t.col t.row) i j p in
+      (puts.inside t.col t.row (record {
+        left = is.left;
+        right = omega (arith, is.right, one_col);
+        top = is.top;
+        bottom = omega (arith, is.bottom, one_row);
+      })).1 t i j p refl refl tt in_x in_y
+      ∙ sym (same (pos x) (pos y) under)
+      ∙ draws t x y under is_in on_x on_y;
+  outside = λ col row in_cols out.
+      ap (λ (l : Waiting). l.ops) (puts.outside col row in_cols (λ j. out (record {
+        left = j.left;
+        right = omega (arith, j.right, one_col);
+        top = j.top;
+        bottom = omega (arith, j.bottom, one_row);
+      })));
+}
+
+-- after it was put, all counts
+pub put_counts : (among : OnTile → Type 0) (put : ℤ → ℤ → Channels → Channels) (at row : ℕ)
+    (old new : Lists)
+    → IsChangedOn (row_to row at (at + 1)) (PutsMore among put) old new → AllCount old
+    → AllCount new
+put_counts among put at row old new puts counts col up few =
+    let area = row_to row at (at + 1) in
+    ⊎_elim (λ t. (puts.inside col up (inside_facts area col up t)).0)
+    (λ t.
+    let out : IsInside area col up → ⊥ = λ i. false≢true (sym t ∙ inside_by area col up i) in
+    ap (λ (l : Waiting). l.more) (puts.outside col up few out) ∙ counts col up few)
+    (cases_Bool (is_in_cells area col up))

@@ -152,3 +152,14 @@ AddsMore among change col row old new =
     → i < 64 → j < 64
     → ops_at t new.more i j p
     ≡ change (pos (col * 64 + i)) (pos (row * 64 + j)) (ops_at t old.more i j p))
+
+-- What was put on a tile, where all counted, makes a change of its places more, if the tile is among
+-- some. All counts there again.
+abbrev pub PutsMore : (OnTile → Type 0) → (ℤ → ℤ → Channels → Channels) → ℕ → ℕ
+    → Waiting → Waiting → Type 0
+PutsMore among change col row old new =
+    (new.more ≡ [])
+    × ((t : OnTile) (i j : ℕ) (p : Channels) → t.col ≡ col → t.row ≡ row → among t
+    → i < 64 → j < 64
+    → ops_at t new.ops i j p
+    ≡ change (pos (col * 64 + i)) (pos (row * 64 + j)) (ops_at t old.ops i j p))

@@ -2,16 +2,17 @@
 
 ghost use Rattle.std.specs.Prelude.{◌≡◌, ◌+◌, ◌-◌, ◌*◌, ◌/◌, ◌<◌, ◌≤◌, ◌≤ℤ◌, ◌-ℤ◌, ℕ, ℤ, pos};
 ghost use Rattle.std.specs.Prelude.{true, length, unsigned_abs, IfSome, IfNone, OnOk, OnErr, Some};
-ghost use Rattle.std.specs.Prelude.{None, ◌^◌};
+ghost use Rattle.std.specs.Prelude.{None, ◌^◌, if◌then◌else◌};
+ghost use Rattle.dp_blend.specs.Blending.{blend};
 ghost use Rattle.dp_blend.specs.Color.{Channels, of_argb, premultiplied};
 ghost use Rattle.dp_pixels.specs.Commands.{IsDabs, pixel_after};
 ghost use Rattle.dp_pixels.specs.Strokes.{brush_of};
-ghost use Rattle.dp_pixels.specs.Rectangles.{is_in};
+ghost use Rattle.dp_pixels.specs.Rectangles.{is_in, rect_at};
 ghost use Rattle.dp_ops.specs.Ops.{tile_place};
 ghost use Rattle.dp_ops.specs.Lists.{AddsMore, AllCount, HasLists, HaveSame, IsChangedOn};
 ghost use Rattle.dp_ops.specs.Lists.{IsFiled, IsInside, StandsOn, StayOutside, anywhere, filed_at};
 
-use crate::lists::{Finish, TileLists};
+use crate::lists::{Finish, TileLists, is_one_cell};
 use crate::op::{OPAQUE, TileDab, TileFill, TileOp};
 use crate::side::tiles_met;
 use dp_blend::Mode;
@@ -67,8 +68,8 @@ fn part_of_side(tile: u32, from: u32, len: u32) -> (u8, u8)
         (result.0 ≤ i) × (i < result.1) }
 {
     let first = tile * 64;
-    let start = from.clamp(first, first + 64) - first;
-    let end = from.saturating_add(len).clamp(first, first + 64) - first;
+    let start = from.saturating_sub(first).min(64);
+    let end = from.saturating_add(len).saturating_sub(first).min(64);
     (start as u8, end as u8)
 }
 
@@ -319,14 +320,44 @@ fn add_command(
     }
 }
 
-/// Has a command wait on the tiles of an area, which has all that it reaches: a fill and dabs as
-/// they are, and any other by its number.
+/// The fill of a command, if it is one and a mode has its number.
+#[inline(always)]
+fn fill_of(command: &Draw) -> Option<RectFill>
+    ensures { IfSome result (λ fill. (wide high : ℕ) (x y : ℤ) (old : Channels)
+        → filed_at wide high command.now x y old
+        ≡ if is_in (rect_at (pos fill.x) (pos fill.y) fill.w fill.h) x y
+        then blend fill.mode (of_argb fill.color) old else old) }
+{
+    let Draw::FillRect {
+        mode,
+        x,
+        y,
+        w,
+        h,
+        color,
+        ..
+    } = command
+    else {
+        return None;
+    };
+    let mode = Mode::from_u8(*mode)?;
+    Some(RectFill {
+        x: *x,
+        y: *y,
+        w: *w,
+        h: *h,
+        mode,
+        color: *color,
+    })
+}
+
+/// Adds a command on the tiles of an area, makes their lists before, and finishes them.
 ///
 /// # Errors
 ///
 /// Memory ran out: what waits on each tile stays.
 #[inline(always)]
-pub fn file(
+fn file_in_steps(
     lists: &mut TileLists,
     alloc: Global,
     source: &Numbered<'_>,
@@ -356,4 +387,38 @@ pub fn file(
             Err(refused)
         }
     }
+}
+
+/// Has a command wait on the tiles of an area, which has all that it reaches: a fill and dabs as
+/// they are, and any other by its number.
+///
+/// # Errors
+///
+/// Memory ran out: what waits on each tile stays.
+#[inline(always)]
+pub fn file(
+    lists: &mut TileLists,
+    alloc: Global,
+    source: &Numbered<'_>,
+    area: CellArea,
+) -> Result<(), AllocError>
+    requires across { area.left ≤ area.right }
+    requires down { area.top ≤ area.bottom }
+    requires cols { area.right ≤ 64 }
+    requires rows { area.bottom ≤ 64 }
+    requires first { lists.old.first ≤ area.top }
+    requires counts { AllCount lists.old }
+    ensures first { lists.new.first ≡ lists.old.first }
+    ensures filed { OnOk result (IsFiled (StandsOn source.now.width source.now.height
+        source.now.number source.now.command.now) source.now.command.now area lists.old
+        lists.new) }
+    ensures same { OnErr result (HaveSame lists.old lists.new) }
+    ensures counts { AllCount lists.new }
+{
+    if is_one_cell(area) && lists.has_list(area.left, area.top) {
+        if let Some(fill) = fill_of(source.command) {
+            return lists.put(&fill, area.left, area.top);
+        }
+    }
+    file_in_steps(lists, alloc, source, area)
 }

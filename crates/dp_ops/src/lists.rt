@@ -1,11 +1,11 @@
 //! Operations that wait until the tiles on which they are done are painted or read.
 
 ghost use Rattle.std.specs.Prelude.{◌≡◌, ◌+◌, ◌-◌, ◌*◌, ◌<◌, ◌≤◌, [], ◌∷◌, ◌++◌, length};
-ghost use Rattle.std.specs.Prelude.{IfOk, OnOk, true};
+ghost use Rattle.std.specs.Prelude.{IfOk, OnOk, OnErr, true};
 ghost use Rattle.dp_ops.specs.Ops.{IsPackable};
 ghost use Rattle.dp_ops.specs.Lists.{AddsMore, HaveSame, HaveSameLists, IsChangedOn};
 ghost use Rattle.dp_ops.specs.Lists.{AllCount, HasLists, IsFinished, StayOutside, cell_place};
-ghost use Rattle.dp_ops.specs.Lists.{finished, listed_at, no_list, row_to};
+ghost use Rattle.dp_ops.specs.Lists.{PutsMore, finished, list_at, listed_at, no_list, row_to};
 
 use crate::filing::TileSource;
 use crate::op::{PackedOp, TileOp};
@@ -46,6 +46,20 @@ impl Model for OpList {
     ghost invariant = { λ l. l.kept ≤ length l.ops.items };
 }
 
+/// Adds an operation at the end of a list: without a call where there is room.
+#[inline(always)]
+fn push_quickly(ops: &mut Vec<PackedOp>, op: PackedOp) -> Result<(), AllocError>
+    ensures added { OnOk result (ops.new.items ≡ ops.old.items ++ op ∷ []) }
+    ensures same { OnErr result (ops.new.items ≡ ops.old.items) }
+{
+    if ops.len() < ops.capacity() {
+        ops.push_reserved(op);
+        return Ok(());
+    }
+    ops.push(op)?;
+    Ok(())
+}
+
 impl OpList {
     /// No operation. It takes no memory.
     fn new(alloc: Global) -> OpList
@@ -65,6 +79,20 @@ impl OpList {
         ensures more { OnOk result (self.new.more ≡ self.old.more ++ op ∷ []) }
     {
         self.ops.push(PackedOp::of(op))?;
+        Ok(())
+    }
+
+    /// Adds an operation that counts. None was added before that doesn't.
+    #[inline(always)]
+    fn put(&mut self, op: TileOp) -> Result<(), AllocError>
+        requires packs { IsPackable op }
+        requires counts { self.old.more ≡ [] }
+        ensures put { OnOk result
+            (self.new ≡ record { ops = self.old.ops ++ op ∷ []; more = [] }) }
+        ensures same { OnErr result (self.new ≡ self.old) }
+    {
+        push_quickly(&mut self.ops, PackedOp::of(op))?;
+        self.kept = self.ops.len();
         Ok(())
     }
 
@@ -105,7 +133,7 @@ impl OpList {
 
 /// Whether an area is one cell, as that of most fills. Then no loop is needed.
 #[inline(always)]
-fn is_one_cell(area: CellArea) -> bool
+pub(crate) fn is_one_cell(area: CellArea) -> bool
     requires across { area.left ≤ area.right }
     requires down { area.top ≤ area.bottom }
     ensures right { result ≡ true → area.right ≡ area.left + 1 }
@@ -182,6 +210,41 @@ impl TileLists {
             self.lists.push(OpList::new(alloc))?;
         }
         Ok(())
+    }
+
+    /// Whether the list of the tile at a column and a row is there.
+    #[inline(always)]
+    pub(crate) fn has_list(&self, col: u32, row: u32) -> bool
+        requires col { col < 64 }
+        requires first { self.now.first ≤ row }
+        ensures { result ≡ true
+            → cell_place col (row - self.now.first) < length self.now.lists }
+    {
+        self.index(col, row) < self.lists.len()
+    }
+
+    /// Adds what a source does on the tile at a column and a row, so that it counts. None was added
+    /// there before that doesn't.
+    #[inline(always)]
+    pub(crate) fn put<S: TileSource>(
+        &mut self,
+        source: &S,
+        col: u32,
+        row: u32,
+    ) -> Result<(), AllocError>
+        requires col { col < 64 }
+        requires row { row < 64 }
+        requires first { self.old.first ≤ row }
+        requires room { cell_place col (row - self.old.first) < length self.old.lists }
+        requires counts { (list_at self.old col row).more ≡ [] }
+        ensures first { self.new.first ≡ self.old.first }
+        ensures put { OnOk result (IsChangedOn (row_to row col (col + 1))
+            (PutsMore (S.among source.now) (S.change source.now)) self.old self.new) }
+        ensures same { OnErr result (HaveSameLists self.old self.new) }
+    {
+        self.added = self.added.saturating_add(1);
+        let at = self.index(col, row);
+        self.lists[at].put(source.op(col, row))
     }
 
     /// Adds what a source does on the tile at a column and a row.

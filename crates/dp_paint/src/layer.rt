@@ -66,6 +66,7 @@ pub struct DeferredGrid {
     colors: usize,
     lists: TileLists,
     more: usize,
+    most: Room,
 }
 
 impl Model for DeferredGrid {
@@ -85,6 +86,23 @@ impl Model for DeferredGrid {
     ghost invariant = { λ d. IsGridOf d.width d.height d.grid
         × (d.lists.first ≡ 0) × AllCount d.lists
         × NamesThese d.width d.height d.images.items d.lists };
+}
+
+/// How much may wait on a layer before all of it is painted.
+#[derive(Clone, Copy)]
+struct Room {
+    ops: usize,
+    colors: usize,
+}
+
+/// How much may wait on the tiles of a grid, with `more` operations more.
+fn room_on(grid: &Grid, more: usize) -> Room {
+    grid.known();
+    let count = grid.cols() as usize * grid.rows() as usize;
+    Room {
+        ops: (count * WAITING).saturating_add(more),
+        colors: count * COLORS,
+    }
 }
 
 /// Draws a command on a grid.
@@ -133,6 +151,7 @@ impl DeferredGrid {
         }) }
     {
         let grid = blank_grid(alloc, width, height)?;
+        let most = room_on(&grid, 0);
         Ok(DeferredGrid {
             width,
             height,
@@ -141,6 +160,7 @@ impl DeferredGrid {
             colors: 0,
             lists: TileLists::new(alloc, 0),
             more: 0,
+            most,
         })
     }
 
@@ -173,6 +193,48 @@ impl DeferredGrid {
         ensures tiles_rise { tiles.old ≤ tiles.new }
         ensures few_tiles { tiles.new ≤ tiles.old + (4096 + reach command.now) }
     {
+        if let Draw::FillRect { .. } = command {
+            // Most commands are fills. It is known from here on then that it is one.
+            return self.draw_any(command, tiles);
+        }
+        self.draw_other(command, tiles)
+    }
+
+    /// Draws a command that is no fill.
+    #[inline(never)]
+    fn draw_other<T: Ledger>(
+        &mut self,
+        command: &Draw,
+        tiles: &mut Steps<T>,
+    ) -> Result<(), AllocError>
+        requires { ChangesPixels command.now }
+        ensures ok { OnOk result (self.new ≡ record self.old {
+          pixels = pixels_after self.old.width
+              self.old.height command.now self.old.pixels;
+        }) }
+        ensures err { OnErr result (self.new ≡ self.old) }
+        ensures tiles_rise { tiles.old ≤ tiles.new }
+        ensures few_tiles { tiles.new ≤ tiles.old + (4096 + reach command.now) }
+    {
+        self.draw_any(command, tiles)
+    }
+
+    /// Draws a command.
+    #[inline(always)]
+    fn draw_any<T: Ledger>(
+        &mut self,
+        command: &Draw,
+        tiles: &mut Steps<T>,
+    ) -> Result<(), AllocError>
+        requires { ChangesPixels command.now }
+        ensures ok { OnOk result (self.new ≡ record self.old {
+          pixels = pixels_after self.old.width
+              self.old.height command.now self.old.pixels;
+        }) }
+        ensures err { OnErr result (self.new ≡ self.old) }
+        ensures tiles_rise { tiles.old ≤ tiles.new }
+        ensures few_tiles { tiles.new ≤ tiles.old + (4096 + reach command.now) }
+    {
         self.grid.known();
         let area = foot_cells(command, self.grid.cols(), self.grid.rows());
         if may_wait(command, area) {
@@ -186,6 +248,7 @@ impl DeferredGrid {
 
     /// Has a command wait on the cells of its foot. All that waits is painted before, if it is too
     /// much.
+    #[inline(always)]
     fn wait<T: Ledger>(
         &mut self,
         command: &Draw,
@@ -268,11 +331,7 @@ impl DeferredGrid {
     fn has_part(&self, part: usize) -> bool
         requires { 0 < part }
     {
-        self.grid.known();
-        let (cols, rows) = (self.grid.cols(), self.grid.rows());
-        let count = cols as usize * rows as usize;
-        let most = (count * WAITING).saturating_add(self.more);
-        self.lists.added() >= most / part || self.colors >= count * COLORS / part
+        self.lists.added() >= self.most.ops / part || self.colors >= self.most.colors / part
     }
 
     /// Whether so much waits that all of it is painted before the next command waits.
@@ -310,6 +369,7 @@ impl DeferredGrid {
         self.images = Vec::new(self.grid.alloc());
         self.colors = 0;
         self.more = MORE;
+        self.most = room_on(&self.grid, MORE);
         Ok(())
     }
 
@@ -410,14 +470,17 @@ impl DeferredGrid {
             commands: &self.images,
         };
         paint_lists(&mut grid, on, &self.lists, all, tiles)?;
+        let resized = resized_grid(&grid, change, tiles)?;
+        let most = room_on(&resized, self.more);
         Ok(DeferredGrid {
             width: change.new_width as u32,
             height: change.new_height as u32,
-            grid: resized_grid(&grid, change, tiles)?,
+            grid: resized,
             images: Vec::new(grid.alloc()),
             colors: 0,
             lists: TileLists::new(grid.alloc(), 0),
             more: self.more,
+            most,
         })
     }
 
@@ -433,6 +496,7 @@ impl DeferredGrid {
             colors: self.colors,
             lists: self.lists.share()?,
             more: self.more,
+            most: self.most,
         })
     }
 

@@ -230,6 +230,7 @@ impl<B: Board> TrailingBoard<B> {
     }
 
     /// If many acts are held, draws those that no act can move any more, and lets them go.
+    #[inline(always)]
     fn settle<D: Ledger, T: Ledger>(
         &mut self,
         draws: &mut Steps<D>,
@@ -250,6 +251,7 @@ impl<B: Board> TrailingBoard<B> {
     }
 
     /// Draws the acts before the oldest point in reach, and lets them go.
+    #[inline(never)]
     fn draw_to_reach<D: Ledger, T: Ledger>(
         &mut self,
         draws: &mut Steps<D>,

@@ -18,7 +18,7 @@ returns-clause-resized g c =
     record { left = 0; right = c.cols.result; top = 0; bottom = c.rows.result } in
     let lists = c.new-2.result in
     let none = ap (λ (l : Lists). l.lists) c.new-2.ensures in
-    let new = c.in_ok-resized_grid.field-0 in
+    let new = c.in_ok-resized.resized in
     other_layer _ change.new_width change.new_height images left lists lists new new
     (resized_layer c.args.self.now change inside.width inside.height images inside.lists lists
     inside.grid c.in_ok-grid.grid c.paint_lists.new.grid new c.self.view_is c.in_ok-grid.ensures
@@ -30,6 +30,6 @@ returns-clause-resized g c =
     (subst (λ (cs : List Draw). IsPaintedOn area
     (waiting_tile inside.width inside.height cs inside.lists) c.in_ok-grid.grid
     c.paint_lists.new.grid) c.deref.ensures.value c.in_ok-paint_lists.ensures.painted))
-    none c.in_ok-resized_grid.ensures.resized)
+    none c.in_ok-resized.ensures.resized)
     (no_lists change.new_width change.new_height left lists new none
     ∙ sym (no_lists change.new_width change.new_height images lists new none))
