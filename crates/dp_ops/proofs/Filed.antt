@@ -425,16 +425,3 @@ put_filed among op put change area old new one_col one_row draws same puts = rec
         bottom = omega (arith, j.bottom, one_row);
       })));
 }
-
--- after it was put, all counts
-pub put_counts : (among : OnTile → Type 0) (put : ℤ → ℤ → Channels → Channels) (at row : ℕ)
-    (old new : Lists)
-    → IsChangedOn (row_to row at (at + 1)) (PutsMore among put) old new → AllCount old
-    → AllCount new
-put_counts among put at row old new puts counts col up few =
-    let area = row_to row at (at + 1) in
-    ⊎_elim (λ t. (puts.inside col up (inside_facts area col up t)).0)
-    (λ t.
-    let out : IsInside area col up → ⊥ = λ i. false≢true (sym t ∙ inside_by area col up i) in
-    ap (λ (l : Waiting). l.more) (puts.outside col up few out) ∙ counts col up few)
-    (cases_Bool (is_in_cells area col up))

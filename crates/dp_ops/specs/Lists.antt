@@ -153,8 +153,8 @@ AddsMore among change col row old new =
     → ops_at t new.more i j p
     ≡ change (pos (col * 64 + i)) (pos (row * 64 + j)) (ops_at t old.more i j p))
 
--- What was put on a tile, where all counted, makes a change of its places more, if the tile is among
--- some. All counts there again.
+-- What was put on a tile, where all counted, makes a change of its places more, if the tile is
+-- among some. All counts there again.
 abbrev pub PutsMore : (OnTile → Type 0) → (ℤ → ℤ → Channels → Channels) → ℕ → ℕ
     → Waiting → Waiting → Type 0
 PutsMore among change col row old new =
