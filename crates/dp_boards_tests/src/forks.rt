@@ -202,6 +202,14 @@ fn say_much<D: Ledger, T: Ledger>(
     }
 }
 
+/// The three letters of a word.
+fn letters_of(rt: &impl Abort, word: &str) -> (u8, u8, u8) {
+    let [how, kind, digit] = word.as_bytes() else {
+        panic!(rt; "{word} has not three letters");
+    };
+    (*how, *kind, *digit)
+}
+
 /// A step by a word of three letters: what comes, what it does, and a digit. Of what comes s is
 /// said, t a stranger's and e an echo. A d stands in place of the first that was said, and l has
 /// all lost. An x is said 130 times, and each time answered by its echo.
@@ -213,10 +221,7 @@ fn step<D: Ledger, T: Ledger>(
     draws: &mut Steps<D>,
     tiles: &mut Steps<T>,
 ) {
-    let [how, kind, digit] = letters.as_bytes() else {
-        panic!(rt; "{letters} has not three letters");
-    };
-    let (how, kind, digit) = (*how, *kind, *digit);
+    let (how, kind, digit) = letters_of(rt, letters);
     let own_word = Word {
         user: SELF,
         kind,
@@ -245,6 +250,18 @@ fn step<D: Ledger, T: Ledger>(
     }
 }
 
+/// What is seen is what the plain rule says, and so is how many words aren't answered.
+fn is_as_wanted(rt: &impl Abort, alloc: Global, painter: &Painter) -> bool {
+    let view = painter.fork.view(painter.confirmed.board());
+    let numbers = with_said(wanted(rt, alloc, painter), &painter.said);
+    painter.fork.pending_len() == painter.said.len() && numbers_of(rt, view) == numbers
+}
+
+/// The test ends if this doesn't hold after a word of a script.
+fn check(rt: &impl Abort, holds: bool, word: &str, script: &str) {
+    assert!(rt; holds, "after {word} in {script}");
+}
+
 /// Runs a script, and compares what is seen with the plain rule after each word.
 fn check_script<D: Ledger, T: Ledger>(
     rt: &impl Abort,
@@ -263,16 +280,7 @@ fn check_script<D: Ledger, T: Ledger>(
     };
     for (place, letters) in script.split_whitespace().enumerate() {
         step(rt, &mut painter, (letters, place), quietly, draws, tiles);
-        assert!(rt;
-            painter.fork.pending_len() == painter.said.len(),
-            "{letters} in {script}"
-        );
-        let view = painter.fork.view(painter.confirmed.board());
-        let numbers = with_said(wanted(rt, alloc, &painter), &painter.said);
-        assert!(rt;
-            numbers_of(rt, view) == numbers,
-            "after {letters} in {script}"
-        );
+        check(rt, is_as_wanted(rt, alloc, &painter), letters, script);
     }
 }
 

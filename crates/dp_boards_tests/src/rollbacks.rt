@@ -17,13 +17,19 @@ const NUMBERS: usize = 8;
 /// What the letter S sets the depth to, by its digit.
 static DEPTHS: [u8; 4] = [1, 2, 30, 255];
 
-/// The act of a word: what it does (Point, Draw, Undo, Redo, Set the depth, Other) and a user. A
-/// command sets the number of its user to its place in the history.
-fn act_of(rt: &impl Abort, word: &str, place: usize) -> UserAct<SetNumber> {
+/// The two letters of a word.
+fn letters_of(rt: &impl Abort, word: &str) -> (u8, u8) {
     let [kind, digit] = word.as_bytes() else {
         panic!(rt; "{word} has not two letters");
     };
-    let user = *digit % 8;
+    (*kind, *digit)
+}
+
+/// The act of a word: what it does (Point, Draw, Undo, Redo, Set the depth, Other) and a user. A
+/// command sets the number of its user to its place in the history.
+fn act_of(rt: &impl Abort, word: &str, place: usize) -> UserAct<SetNumber> {
+    let (kind, digit) = letters_of(rt, word);
+    let user = digit % 8;
     let act = match kind {
         b'P' => Act::Point,
         b'D' => Act::Draw(SetNumber {
@@ -89,6 +95,19 @@ fn letter(change: Change) -> u8 {
     }
 }
 
+/// The change has the letter at this place, if letters are given.
+fn has_letter(change: Change, place: usize, letters: Option<&str>) -> bool {
+    match letters {
+        Some(letters) => letters.as_bytes().get(place) == Some(&letter(change)),
+        None => true,
+    }
+}
+
+/// The test ends if this doesn't hold after a word of a script.
+fn check(rt: &impl Abort, holds: bool, word: &str, script: &str) {
+    assert!(rt; holds, "after {word} in {script}");
+}
+
 /// Takes the acts of a script one by one, and compares the numbers with the replay after each. The
 /// changes have these letters, if any are given.
 fn check_script<D: Ledger, T: Ledger>(
@@ -104,19 +123,11 @@ fn check_script<D: Ledger, T: Ledger>(
     for (k, word) in script.split_whitespace().enumerate() {
         let act = act_of(rt, word, k);
         let change = take(&mut rollback, &act, draws, tiles).expect(rt, "memory");
-        if let Some(changes) = changes {
-            let wanted = changes.as_bytes().get(k).copied();
-            assert!(rt;
-                Some(letter(change)) == wanted,
-                "{k} of {script} at {depth}"
-            );
-        }
+        let has_letter = has_letter(change, k, changes);
+        check(rt, has_letter, word, script);
         acts.push(act).expect(rt, "memory");
-        let (numbers, wanted) = (
-            numbers_of(rt, rollback.board()),
-            replayed(rt, alloc, depth, &acts),
-        );
-        assert!(rt; numbers == wanted, "after {word} in {script} at {depth}");
+        let shows_replay = numbers_of(rt, rollback.board()) == replayed(rt, alloc, depth, &acts);
+        check(rt, shows_replay, word, script);
     }
 }
 
@@ -211,8 +222,8 @@ fn check_memory<D: Ledger, T: Ledger>(
             assert!(rt; rollback.kept() <= most || count < 10_000);
         }
     }
-    assert!(rt; count > 100_000, "{count} acts");
-    assert!(rt; most < 500, "{most} acts");
+    assert!(rt; count > 100_000);
+    assert!(rt; most < 500);
 }
 
 /// One point, and some thousand commands after it: two savepoints at most are held, and the point
@@ -236,13 +247,10 @@ fn check_saves<D: Ledger, T: Ledger>(
         let act = act_of(rt, word, place);
         take(&mut rollback, &act, draws, tiles).expect(rt, "memory");
         acts.push(act).expect(rt, "memory");
-        assert!(rt; rollback.saves() <= 2, "{} savepoints", rollback.saves());
+        assert!(rt; rollback.saves() <= 2);
     }
-    let (numbers, wanted) = (
-        numbers_of(rt, rollback.board()),
-        replayed(rt, alloc, 30, &acts),
-    );
-    assert!(rt; numbers == wanted);
+    let numbers = numbers_of(rt, rollback.board());
+    assert!(rt; numbers == replayed(rt, alloc, 30, &acts));
     assert!(rt; numbers[1] == 2);
 }
 
@@ -264,10 +272,9 @@ fn check_trailing<D: Ledger, T: Ledger>(
             .expect(rt, "memory");
         acts.push(act_of(rt, word, place)).expect(rt, "memory");
     }
-    assert!(rt; acts.len() > 2000, "{} acts", acts.len());
+    assert!(rt; acts.len() > 2000);
     let board = board.finish(draws, tiles).expect(rt, "memory");
-    let (numbers, wanted) = (numbers_of(rt, &board), replayed(rt, alloc, depth, &acts));
-    assert!(rt; numbers == wanted, "at {depth}");
+    assert!(rt; numbers_of(rt, &board) == replayed(rt, alloc, depth, &acts));
 }
 
 /// Checks scripts, savepoints, two hundred groups of a command, and boards that trail, with

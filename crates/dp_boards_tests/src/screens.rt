@@ -112,6 +112,17 @@ fn wanted<B: Board<Op = Draw>, D: Ledger, T: Ledger>(
     (confirmed, row_of(&board))
 }
 
+/// The rows that are seen: the confirmed one, and that with what was said.
+fn rows_of<B: Board<Op = Draw> + BoardView>(painter: &Painter<B>) -> (Row, Row) {
+    let confirmed = row_of(painter.screen.confirmed());
+    (confirmed, row_of(painter.screen.view()))
+}
+
+/// The test ends if this doesn't hold after a word.
+fn check(rt: &impl Abort, holds: bool, word: &str) {
+    assert!(rt; holds, "after {word}");
+}
+
 /// The two rows that are seen are those of the plain rule.
 fn check_rows<B: Board<Op = Draw> + BoardView, D: Ledger, T: Ledger>(
     rt: &impl Abort,
@@ -120,16 +131,10 @@ fn check_rows<B: Board<Op = Draw> + BoardView, D: Ledger, T: Ledger>(
     draws: &mut Steps<D>,
     tiles: &mut Steps<T>,
 ) {
-    let (confirmed, view) = wanted(rt, painter, draws, tiles);
-    assert!(rt;
-        painter.screen.pending_len() == painter.said.len(),
-        "{letters}"
-    );
-    assert!(rt;
-        row_of(painter.screen.confirmed()) == confirmed,
-        "{letters}"
-    );
-    assert!(rt; row_of(painter.screen.view()) == view, "{letters}");
+    let rows = wanted(rt, painter, draws, tiles);
+    check(rt, rows_of(painter) == rows, letters);
+    let is_pending = painter.screen.pending_len() == painter.said.len();
+    check(rt, is_pending, letters);
 }
 
 /// Says a word. If memory was refused, what is seen is as it was, and it is said once more.
@@ -211,6 +216,14 @@ fn begin_anew<B: Board<Op = Draw> + BoardView, D: Ledger, T: Ledger>(
     Ok(())
 }
 
+/// The three letters of a word.
+fn letters_of(rt: &impl Abort, word: &str) -> (u8, u8, u8) {
+    let [how, kind, digit] = word.as_bytes() else {
+        panic!(rt; "{word} has not three letters");
+    };
+    (*how, *kind, *digit)
+}
+
 /// A step by a word of three letters: what comes, what it does, and a digit. Of what comes s is
 /// said, t a stranger's and e an echo. A d stands in place of the first that was said, l has all
 /// lost, and m is a mark. An x is said 130 times, and each time answered by its echo.
@@ -222,10 +235,7 @@ fn step<B: Board<Op = Draw> + BoardView, D: Ledger, T: Ledger>(
     draws: &mut Steps<D>,
     tiles: &mut Steps<T>,
 ) {
-    let [how, kind, digit] = letters.as_bytes() else {
-        panic!(rt; "{letters} has not three letters");
-    };
-    let (how, kind, digit) = (*how, *kind, *digit);
+    let (how, kind, digit) = letters_of(rt, letters);
     let user = if matches!(how, b's' | b'x') { 1 } else { 2 };
     let word = Word {
         user,

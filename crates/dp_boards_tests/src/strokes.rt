@@ -11,22 +11,37 @@ use std::process::Abort;
 /// What the letter S sets the depth to, by its digit.
 static DEPTHS: [u8; 4] = [1, 2, 30, 255];
 
-/// The act of a word: its user, what it does (Point, Draw, Undo, Redo, Set the depth, Other) and
-/// the user of an Undo or a Redo. A Draw that is expected to be drawn ends in `+`.
-fn act_of(rt: &impl Abort, word: &str) -> UserAct<u8> {
+/// The test ends if this doesn't hold of a word or a script.
+fn check(rt: &impl Abort, holds: bool, words: &str) {
+    assert!(rt; holds, "at {words}");
+}
+
+/// The three letters of a word.
+fn letters_of(rt: &impl Abort, word: &str) -> (u8, u8, u8) {
     let [user, kind, last] = word.as_bytes() else {
         panic!(rt; "{word} has not three letters");
     };
+    (*user, *kind, *last)
+}
+
+/// The act of a word: its user, what it does (Point, Draw, Undo, Redo, Set the depth, Other) and
+/// the user of an Undo or a Redo. A Draw that is expected to be drawn ends in `+`.
+fn act_of(rt: &impl Abort, word: &str) -> UserAct<u8> {
+    let (user, kind, last) = letters_of(rt, word);
+    check(
+        rt,
+        matches!(kind, b'P' | b'D' | b'U' | b'R' | b'S' | b'O'),
+        word,
+    );
     let act = match kind {
         b'P' => Act::Point,
-        b'D' => Act::Draw(*last),
-        b'U' => Act::Undo { who: *last },
-        b'R' => Act::Redo { who: *last },
-        b'S' => Act::Depth(DEPTHS[usize::from(*last) % 4]),
-        b'O' => Act::Other,
-        _ => panic!(rt; "{word} does nothing known"),
+        b'D' => Act::Draw(last),
+        b'U' => Act::Undo { who: last },
+        b'R' => Act::Redo { who: last },
+        b'S' => Act::Depth(DEPTHS[usize::from(last) % 4]),
+        _ => Act::Other,
     };
-    UserAct { user: *user, act }
+    UserAct { user, act }
 }
 
 /// Adds the acts of a script, which has a word for each.
@@ -110,11 +125,8 @@ fn drawn_commands(rt: HostRuntime) {
         }
         push_acts(&rt, &mut acts, last);
         let flags = drawn_flags(rt.alloc(), *depth, &acts).expect(&rt, "memory");
-        assert!(rt; flags.len() == acts.len());
-        assert!(rt;
-            is_as_expected(&acts, &flags),
-            "{first}, {points} points, {last} at {depth}"
-        );
+        check(&rt, flags.len() == acts.len(), first);
+        check(&rt, is_as_expected(&acts, &flags), first);
     }
 }
 
@@ -177,6 +189,35 @@ fn joined(join: Join) -> u8 {
     }
 }
 
+/// The letter of what an act moves: `-` for nothing.
+fn moved(group: Option<usize>) -> u8 {
+    match group {
+        Some(group) => digit(group),
+        None => b'-',
+    }
+}
+
+/// The letter stands at this place.
+fn has(letters: &str, place: usize, letter: u8) -> bool {
+    letters.as_bytes().get(place) == Some(&letter)
+}
+
+/// Takes an act, in place or not.
+fn take(
+    rt: &impl Abort,
+    alloc: Global,
+    table: &mut StrokeTable,
+    act: &UserAct<u8>,
+    in_place: bool,
+) {
+    let taken = if in_place {
+        table.advance(act)
+    } else {
+        table.take(alloc, act)
+    };
+    taken.expect(rt, "memory");
+}
+
 /// Takes the acts of a script at depth 2 one by one, in place or not. What each moves (`-` for
 /// nothing) and joins has these letters.
 fn check_moves(
@@ -189,22 +230,9 @@ fn check_moves(
     assert!(rt; (table.position(), table.oldest()) == (0, 0));
     for (k, word) in script.split_whitespace().enumerate() {
         let act = act_of(rt, word);
-        let moved = table.moved(&act).map_or(b'-', digit);
-        assert!(rt;
-            moves.as_bytes().get(k).copied() == Some(moved),
-            "{k} of {script}"
-        );
-        let joined = joined(table.join_of(&act));
-        assert!(rt;
-            joins.as_bytes().get(k).copied() == Some(joined),
-            "{k} of {script}"
-        );
-        let taken = if in_place {
-            table.advance(&act)
-        } else {
-            table.take(alloc, &act)
-        };
-        taken.expect(rt, "memory");
+        check(rt, has(moves, k, moved(table.moved(&act))), script);
+        check(rt, has(joins, k, joined(table.join_of(&act))), script);
+        take(rt, alloc, &mut table, &act, in_place);
     }
 }
 

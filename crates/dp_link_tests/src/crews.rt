@@ -29,22 +29,20 @@ fn two_workers_add(rt: HostRuntime) {
     wires.push(wire(&rt, alloc, &first)).expect(&rt, "memory");
     wires.push(wire(&rt, alloc, &second)).expect(&rt, "memory");
     let (counter, ran) = count_links(&rt, alloc, wires).expect(&rt, "memory");
-    assert_eq!(rt; counter.sum, 22);
-    assert_eq!(rt; counter.journal.len(), 6);
+    assert!(rt; counter.sum == 22);
+    assert!(rt; counter.journal.len() == 6);
     let mut last = [0u8; 2];
     for byte in &counter.journal {
         let of = (*byte % 2) as usize;
         assert!(rt; of < 2 && last[of] < *byte);
         last[of] = *byte;
     }
-    assert_eq!(rt; ran.reports.len(), 3);
+    assert!(rt; ran.reports.len() == 3);
     let told = [(0, 0, 3), (0, 1, 1), (1, 0, 2)];
     for (k, (worker, link, count)) in told.iter().enumerate() {
         let report: &Added = ran.reports.get(k).expect(&rt, "a report");
-        assert_eq!(rt;
-            (report.worker, report.link, report.count),
-            (*worker, *link, *count)
-        );
+        assert!(rt; report.worker == *worker && report.link == *link);
+        assert!(rt; report.count == *count);
     }
     assert!(rt; !ran.flags.memory && !ran.flags.fault && !ran.flags.wire);
     for wire in &ran.wires {

@@ -26,15 +26,15 @@ fn empty(rt: &impl Abort, alloc: Global) -> Tally {
 fn four_threads_act(rt: HostRuntime) {
     let tally = empty(&rt, rt.alloc());
     let tally = live_four(&rt, rt.alloc(), tally, TIMES).expect(&rt, "memory");
-    assert_eq!(rt; tally.marks.len(), 40_000);
+    assert!(rt; tally.marks.len() == 40_000);
     let mut next = [0u64; 4];
     for mark in tally.marks.iter() {
         let thread = mark.thread as usize;
         assert!(rt; thread < 4);
-        assert_eq!(rt; mark.number, next[thread]);
+        assert!(rt; mark.number == next[thread]);
         next[thread] = mark.number.wrapping_add(1);
     }
-    assert_eq!(rt; next, [TIMES; 4]);
+    assert!(rt; next == [TIMES; 4]);
 }
 
 #[test]
@@ -44,7 +44,7 @@ fn a_wait_ends_at_an_act(rt: HostRuntime) {
     let (_, (count, ())) = live_both(&rt, rt.alloc(), tally, &mut wait, &mut act).expect(
         &rt, "memory",
     );
-    assert_eq!(rt; count, 1);
+    assert!(rt; count == 1);
 }
 
 #[test]
@@ -60,8 +60,8 @@ fn a_count_comes_while_an_act_goes_on(rt: HostRuntime) {
     let (_, (count, outcome)) = live_both(&rt, rt.alloc(), tally, &mut count, &mut act).expect(
         &rt, "memory",
     );
-    assert_eq!(rt; count, Some(0));
-    assert_eq!(rt; outcome, Ok(true));
+    assert!(rt; count == Some(0));
+    assert!(rt; outcome == Ok(true));
 }
 
 #[test]
@@ -69,8 +69,8 @@ fn a_refused_act_is_an_entry(rt: HostRuntime) {
     let tally = empty(&rt, rt.alloc());
     let mut act = ActRefused { rt: &rt };
     let (tally, answers) = live(rt.alloc(), tally, &mut act).expect(&rt, "memory");
-    assert_eq!(rt; answers, (true, 1, true, Some(1)));
-    assert_eq!(rt; tally.marks.len(), 1);
+    assert!(rt; answers == (true, 1, true, Some(1)));
+    assert!(rt; tally.marks.len() == 1);
 }
 
 #[test]
@@ -78,6 +78,6 @@ fn a_turn_ends_at_a_refused_act(rt: HostRuntime) {
     let tally = empty(&rt, rt.alloc());
     let mut acts = ActThree { rt: &rt };
     let (tally, answers) = live(rt.alloc(), tally, &mut acts).expect(&rt, "memory");
-    assert_eq!(rt; answers, (2, 1, true, 2));
-    assert_eq!(rt; tally.marks.len(), 1);
+    assert!(rt; answers == (2, 1, true, 2));
+    assert!(rt; tally.marks.len() == 1);
 }

@@ -89,10 +89,10 @@ fn check_over<R: Wait + Abort, K: Keeper + Drop>(rt: &R, alloc: Global, keeper: 
     let fails = numbers(rt, alloc, row.write_fails);
     let mut tx = MemSink::new(alloc, 100, row.room, fails).expect(rt, "memory");
     let (end, journal, shut) = run_link(rt, alloc, keeper, &mut rx, &mut tx).expect(rt, "memory");
-    assert_eq!(rt; end, row.end);
-    assert_eq!(rt; journal.as_slice().len(), row.events);
-    assert_eq!(rt; shut.as_slice().len(), row.shut);
-    assert_eq!(rt; tx.as_slice(), row.feed);
+    assert!(rt; end == row.end);
+    assert!(rt; journal.as_slice().len() == row.events);
+    assert!(rt; shut.as_slice().len() == row.shut);
+    assert!(rt; tx.as_slice() == row.feed);
 }
 
 /// Looks at the link of a row over a store that never fails.

@@ -15,6 +15,9 @@ use std::process::Abort;
 use std::sync::ledger::{Blank, Ledger};
 use std::thread::Threads;
 
+/// A layer, a place on it, and the channels that are expected there.
+type Place = (u16, u32, u32, Option<[u16; 4]>);
+
 /// Commands, each a kind and its payload, and what they make of the empty board: its sides, its
 /// background, each row's id and parent, and pixels of layers, each at a place.
 struct Case {
@@ -22,7 +25,7 @@ struct Case {
     sides: (u32, u32),
     background: u32,
     rows: &'static [(u16, u16)],
-    pixels: &'static [(u16, u32, u32, Option<[u16; 4]>)],
+    pixels: &'static [Place],
 }
 
 const TWO_BY_ONE: &[u8] = b"\x81\0\0\0\0\0\0\0\x02\0\0\0\x01\0\0\0\0";
@@ -109,7 +112,7 @@ const SETTLES_4: &[u8] = b"\x98\x01\x01\0\0\0@\0\0\0@\0\0\0\x01\0\0\0\x01\0\0\0@
 const SETTLES_5: &[u8] = b"\x98\x01\x01\0\0\0\x80\0\0\0@\0\0\0\x01\0\0\0\x01\0\0\0\x80\0\0\0@";
 
 /// Ten places after all of these.
-const PLACES: &[(u16, u32, u32, Option<[u16; 4]>)] = &[
+const PLACES: &[Place] = &[
     (0x0101, 60, 60, CLEAR),
     (0x0101, 66, 2, RED),
     (0x0101, 69, 5, BLUE),
@@ -178,14 +181,24 @@ fn draws_batch<R: Threads + Sync + Abort, D: Ledger, T: Ledger>(
 
 /// The board looks as the case says.
 fn looks_so<B: BoardView>(rt: &impl Abort, board: &B, case: &Case) {
-    assert_eq!(rt; (board.width(), board.height()), case.sides);
-    assert_eq!(rt; board.background(), case.background);
-    assert_eq!(rt; board.rows().len(), case.rows.len());
-    for (row, (id, parent)) in board.rows().iter().zip(case.rows) {
-        assert_eq!(rt; (row.id, row.parent), (*id, *parent));
+    assert!(rt; (board.width(), board.height()) == case.sides);
+    assert!(rt; board.background() == case.background);
+    has_rows(rt, board, case.rows);
+    has_pixels(rt, board, case.pixels);
+}
+
+/// The board has rows of these ids and parents.
+fn has_rows<B: BoardView>(rt: &impl Abort, board: &B, rows: &[(u16, u16)]) {
+    assert!(rt; board.rows().len() == rows.len());
+    for (row, (id, parent)) in board.rows().iter().zip(rows) {
+        assert!(rt; row.id == *id && row.parent == *parent);
     }
-    for (id, x, y, expected) in case.pixels {
-        assert_eq!(rt; board.pixel(*id, *x, *y).map(channels), *expected);
+}
+
+/// The board has these pixels.
+fn has_pixels<B: BoardView>(rt: &impl Abort, board: &B, pixels: &[Place]) {
+    for (id, x, y, expected) in pixels {
+        assert!(rt; board.pixel(*id, *x, *y).map(channels) == *expected);
     }
 }
 
@@ -545,12 +558,8 @@ fn pairs_are_apart(rt: HostRuntime) {
     let alloc = rt.alloc();
     for (first, second, apart) in &PAIRS {
         let (a, b) = (command(&rt, alloc, first), command(&rt, alloc, second));
-        assert_eq!(rt; Canvas::apart(&a, &b), *apart, "{first:?} and {second:?}");
-        assert_eq!(rt; Canvas::apart(&b, &a), *apart, "{second:?} and {first:?}");
-        assert_eq!(rt;
-            PlainBoard::apart(&a, &b),
-            *apart,
-            "{first:?} and {second:?}"
-        );
+        assert!(rt; Canvas::apart(&a, &b) == *apart);
+        assert!(rt; Canvas::apart(&b, &a) == *apart);
+        assert!(rt; PlainBoard::apart(&a, &b) == *apart);
     }
 }

@@ -86,11 +86,11 @@ static GROUPS: [([u8; 3], [u8; 3], bool, [u8; 3]); 6] = [
 
 /// Looks at a picture of one pixel.
 fn check_pixel<V: BoardView>(rt: &impl Abort, alloc: Global, board: &V, want: [u8; 3]) {
-    assert_eq!(rt; (board.width(), board.height()), (1, 1));
+    assert!(rt; (board.width(), board.height()) == (1, 1));
     let pixel = flatten(board, 0, 0);
-    assert_eq!(rt; [to8(pixel.r()), to8(pixel.g()), to8(pixel.b())], want);
+    assert!(rt; [to8(pixel.r()), to8(pixel.g()), to8(pixel.b())] == want);
     let mut sink = MemSink::new(alloc, 40, 5, Vec::new(alloc)).expect(rt, "memory");
-    assert_eq!(rt; write_p6(alloc, board, &mut sink), Ok(()));
+    assert!(rt; write_p6(alloc, board, &mut sink) == Ok(()));
     assert!(rt; sink.as_slice().starts_with(b"P6\n1 1\n255\n"));
     assert!(rt; sink.as_slice().ends_with(&want));
 }
@@ -120,9 +120,8 @@ fn check_groups<D: Ledger, T: Ledger>(
     }
 }
 
-/// A picture of lines, and one whose sink fails at its second write. Rows of four pixels share a
-/// piece: the head and 4094 rows are in the first.
-fn check_backgrounds<D: Ledger, T: Ledger>(
+/// A picture of lines.
+fn check_lines<D: Ledger, T: Ledger>(
     rt: &impl Abort,
     alloc: Global,
     draws: &mut Steps<D>,
@@ -131,15 +130,25 @@ fn check_backgrounds<D: Ledger, T: Ledger>(
     let commands = [resize(2, 1), Draw::Background { color: 0x80ff_0000 }];
     let board = board_of(rt, alloc, &commands, draws, tiles);
     let mut sink = MemSink::new(alloc, 60, 7, Vec::new(alloc)).expect(rt, "memory");
-    assert_eq!(rt; write_p3(alloc, &board, &mut sink), Ok(()));
+    assert!(rt; write_p3(alloc, &board, &mut sink) == Ok(()));
     let lines = b"P3\n2 1\n255\n255 127 127\n255 127 127\n".as_slice();
-    assert_eq!(rt; sink.as_slice(), lines);
+    assert!(rt; sink.as_slice() == lines);
+}
+
+/// A picture whose sink fails at its second write. Rows of four pixels share a piece: the head and
+/// 4094 rows are in the first.
+fn check_failing<D: Ledger, T: Ledger>(
+    rt: &impl Abort,
+    alloc: Global,
+    draws: &mut Steps<D>,
+    tiles: &mut Steps<T>,
+) {
     let commands = [resize(4, 4096), Draw::Background { color: 0xff01_0203 }];
     let board = board_of(rt, alloc, &commands, draws, tiles);
     let fails = Vec::from_slice(alloc, &[2]).expect(rt, "memory");
     let mut sink = MemSink::new(alloc, 60_000, 60_000, fails).expect(rt, "memory");
-    assert_eq!(rt; write_p6(alloc, &board, &mut sink), Err(PictureEnd::Failed));
-    assert_eq!(rt; sink.as_slice().len(), 14 + 4 * 3 * 4094);
+    assert!(rt; write_p6(alloc, &board, &mut sink) == Err(PictureEnd::Failed));
+    assert!(rt; sink.as_slice().len() == 14 + 4 * 3 * 4094);
 }
 
 /// Looks at pictures with counters over these blanks.
@@ -157,7 +166,8 @@ fn check_pictures<D: Ledger, T: Ledger>(
     let mut draws = Steps::<D>::new(draw_blank);
     let mut tiles = Steps::<T>::new(tile_blank);
     check_groups(rt, alloc, &mut draws, &mut tiles);
-    check_backgrounds(rt, alloc, &mut draws, &mut tiles);
+    check_lines(rt, alloc, &mut draws, &mut tiles);
+    check_failing(rt, alloc, &mut draws, &mut tiles);
 }
 
 #[test]

@@ -73,11 +73,8 @@ fn gives_up<R: Threads + Sync + Abort>(
         gave_up: AtomicU64::new(0),
     };
     let mut sink = MemSink::new(alloc, 60_000, 60_000, Vec::new(alloc)).expect(rt, "memory");
-    assert_eq!(rt;
-        write_p6_by(rt, alloc, workers, &gate, board, &mut sink),
-        Ok(())
-    );
-    assert_eq!(rt; sink.as_slice(), want);
+    assert!(rt; write_p6_by(rt, alloc, workers, &gate, board, &mut sink) == Ok(()));
+    assert!(rt; sink.as_slice() == want);
     gate.gave_up.load(Ordering::SeqCst) == 1
 }
 
@@ -104,9 +101,9 @@ fn check_workers<R: Threads + Sync + Abort, D: Ledger, T: Ledger>(
     ];
     let board = board_of(rt, alloc, &commands, &mut draws, &mut tiles);
     let mut sink = MemSink::new(alloc, 60_000, 60_000, Vec::new(alloc)).expect(rt, "memory");
-    assert_eq!(rt; write_p6(alloc, &board, &mut sink), Ok(()));
+    assert!(rt; write_p6(alloc, &board, &mut sink) == Ok(()));
     let want = sink.as_slice();
-    assert_eq!(rt; want.len(), 14 + 70 * 120 * 3);
+    assert!(rt; want.len() == 14 + 70 * 120 * 3);
     assert!(rt; gives_up(rt, alloc, &board, 0, want));
     assert!(rt; gives_up(rt, alloc, &board, 1, want));
     assert!(rt; !gives_up(rt, alloc, &board, 2, want));
@@ -137,9 +134,9 @@ fn paints_in_turn<R: Threads + Sync + Abort, D: Ledger, T: Ledger>(
     canvas
         .draw_batch(rt, &batch, &workers, draws, tiles)
         .expect(rt, "memory");
-    assert_eq!(rt; canvas.pixel(1, 4, 5), Some(of_argb(0xff12_3456)));
-    assert_eq!(rt; canvas.pixel(1, 5, 5), Some(Pixel::CLEAR));
-    assert_eq!(rt; canvas.pixel(1, 6, 71), Some(Pixel::WHITE));
+    assert!(rt; canvas.pixel(1, 4, 5) == Some(of_argb(0xff12_3456)));
+    assert!(rt; canvas.pixel(1, 5, 5) == Some(Pixel::CLEAR));
+    assert!(rt; canvas.pixel(1, 6, 71) == Some(Pixel::WHITE));
     gate.gave_up.load(Ordering::SeqCst) == 1
 }
 

@@ -21,34 +21,61 @@ const MODES: [Mode; 6] = [
 /// Numbers of which some are at an end of their range.
 const PARTS: [u16; 6] = [0, 1, 32767, 32768, 16448, 20001];
 
+/// Channels and an alpha.
+type Parts = (u16, u16, u16, u16);
+
+/// What a half green gives over a half red in each mode.
+static BLENDS: [(Mode, Parts); 6] = [
+    (Mode::Erase, (12288, 0, 0, 12288)),
+    (Mode::Normal, (12288, 8192, 0, 20480)),
+    (Mode::Multiply, (12288, 4096, 0, 20480)),
+    (Mode::Add, (16384, 8192, 0, 20480)),
+    (Mode::Recolor, (12288, 4096, 0, 16384)),
+    (Mode::Replace, (0, 8192, 0, 8192)),
+];
+
+/// The test ends if this doesn't hold in a mode, of so many pixels or at such a number.
+fn check(rt: &impl Abort, holds: bool, mode: Mode, at: usize) {
+    assert!(rt; holds, "{mode:?} at {at}");
+}
+
 #[test]
 fn blends_in_each_mode(rt: HostRuntime) {
     let src = pixel(&rt, (0, 8192, 0, 8192));
     let dst = pixel(&rt, (16384, 0, 0, 16384));
-    for (mode, want) in [
-        (Mode::Erase, (12288, 0, 0, 12288)),
-        (Mode::Normal, (12288, 8192, 0, 20480)),
-        (Mode::Multiply, (12288, 4096, 0, 20480)),
-        (Mode::Add, (16384, 8192, 0, 20480)),
-        (Mode::Recolor, (12288, 4096, 0, 16384)),
-        (Mode::Replace, (0, 8192, 0, 8192)),
-    ] {
-        assert!(rt; blend(mode, src, dst) == pixel(&rt, want), "at {mode:?}");
+    for (mode, want) in &BLENDS {
+        check(&rt, blend(*mode, src, dst) == pixel(&rt, *want), *mode, 1);
     }
+}
+
+/// Colours with their channels and alphas.
+static COLORS: [(u32, Parts); 4] = [
+    (0x80ff_0000, (16448, 0, 0, 16448)),
+    (0xffff_ffff, (32768, 32768, 32768, 32768)),
+    (0x00ff_ffff, (0, 0, 0, 0)),
+    (0xff01_0203, (129, 257, 386, 32768)),
+];
+
+/// The pixel has these bytes.
+fn has_bytes(pixel: Pixel, bytes: (u8, u8, u8)) -> bool {
+    (to8(pixel.r()), to8(pixel.g()), to8(pixel.b())) == bytes
 }
 
 #[test]
 fn blends_a_half_red_on_white(rt: HostRuntime) {
-    let red = of_argb(0x80ff_0000);
-    assert!(rt; red == pixel(&rt, (16448, 0, 0, 16448)));
+    for (color, parts) in &COLORS {
+        assert!(rt; of_argb(*color) == pixel(&rt, *parts));
+    }
     let white = of_argb(0xffff_ffff);
-    assert!(rt; white == pixel(&rt, (32768, 32768, 32768, 32768)));
-    assert!(rt; white == Pixel::WHITE);
-    let shown = blend(Mode::Normal, red, white);
-    assert!(rt; (to8(shown.r()), to8(shown.g()), to8(shown.b())) == (0xff, 0x7f, 0x7f));
+    let shown = blend(Mode::Normal, of_argb(0x80ff_0000), white);
+    assert!(rt; has_bytes(shown, (0xff, 0x7f, 0x7f)));
+}
+
+#[test]
+fn clear_and_white(rt: HostRuntime) {
+    assert!(rt; of_argb(0xffff_ffff) == Pixel::WHITE);
     assert!(rt; of_argb(0x00ff_ffff) == Pixel::default());
     assert!(rt; of_argb(0x00ff_ffff) == Pixel::CLEAR);
-    assert!(rt; of_argb(0xff01_0203) == pixel(&rt, (129, 257, 386, 32768)));
 }
 
 /// A row of five pixels: four are put at a time, and then the last one.
@@ -79,69 +106,78 @@ fn takes_each_byte_to_a_channel_and_back(rt: HostRuntime) {
     for byte in 0..=255 {
         assert!(rt; to8(from8(byte)) == byte);
     }
-    for (byte, channel) in [(0, 0), (128, 16448), (255, 32768)] {
-        assert!(rt; from8(byte) == channel, "at {byte}");
-    }
+    assert!(rt; (from8(0), from8(128), from8(255)) == (0, 16448, 32768));
 }
+
+/// The modes with their numbers.
+static NUMBERED: [(u8, Mode); 6] = [
+    (0, Mode::Erase),
+    (1, Mode::Normal),
+    (2, Mode::Multiply),
+    (9, Mode::Add),
+    (10, Mode::Recolor),
+    (255, Mode::Replace),
+];
+
+/// Numbers of no mode.
+static UNNUMBERED: [u8; 4] = [3, 8, 11, 254];
 
 #[test]
 fn numbers_the_modes(rt: HostRuntime) {
-    for (number, mode) in [
-        (0, Mode::Erase),
-        (1, Mode::Normal),
-        (2, Mode::Multiply),
-        (9, Mode::Add),
-        (10, Mode::Recolor),
-        (255, Mode::Replace),
-    ] {
-        assert!(rt; Mode::from_u8(number) == Some(mode), "at {number}");
-        assert!(rt; mode.number() == number);
+    for (number, mode) in &NUMBERED {
+        assert!(rt; Mode::from_u8(*number) == Some(*mode));
+        assert!(rt; mode.number() == *number);
     }
-    for number in [3, 8, 11, 254] {
-        assert!(rt; Mode::from_u8(number) == None, "at {number}");
+    for number in &UNNUMBERED {
+        assert!(rt; Mode::from_u8(*number).is_none());
+    }
+}
+
+/// Channels and an alpha, and whether they make a pixel.
+static MADE: [(Parts, bool); 7] = [
+    ((0, 0, 0, 0), true),
+    ((32768, 0, 1, 32768), true),
+    ((5, 4, 5, 5), true),
+    ((6, 5, 5, 5), false),
+    ((5, 6, 5, 5), false),
+    ((5, 5, 6, 5), false),
+    ((0, 0, 0, 32769), false),
+];
+
+#[test]
+fn makes_pixels_within_their_alpha(rt: HostRuntime) {
+    for ((r, g, b, a), want) in &MADE {
+        assert!(rt; Pixel::new(*r, *g, *b, *a).is_some() == *want);
     }
 }
 
 #[test]
-fn makes_pixels_within_their_alpha(rt: HostRuntime) {
-    for ((r, g, b, a), want) in [
-        ((0, 0, 0, 0), true),
-        ((32768, 0, 1, 32768), true),
-        ((5, 4, 5, 5), true),
-        ((6, 5, 5, 5), false),
-        ((5, 6, 5, 5), false),
-        ((5, 5, 6, 5), false),
-        ((0, 0, 0, 32769), false),
-    ] {
-        assert!(rt;
-            Pixel::new(r, g, b, a).is_some() == want,
-            "at {r} {g} {b} {a}"
-        );
-    }
+fn fades_a_pixel(rt: HostRuntime) {
     let made = pixel(&rt, (1, 2, 3, 4));
     assert!(rt; (made.r(), made.g(), made.b(), made.a()) == (1, 2, 3, 4));
     assert!(rt; fade(made, ONE) == made);
     assert!(rt; fade(made, ONE / 2) == pixel(&rt, (0, 1, 1, 2)));
 }
 
+/// What a half green gives over a half red through a whole mask and through a half one.
+static MASKED: [(Mode, Parts, Parts); 2] = [
+    (
+        Mode::Normal,
+        (12288, 8192, 0, 20480),
+        (14328, 4112, 0, 18440),
+    ),
+    (Mode::Replace, (0, 8192, 0, 8192), (0, 4112, 0, 4112)),
+];
+
 #[test]
 fn blends_a_row_through_a_mask(rt: HostRuntime) {
     let src = pixel(&rt, (0, 8192, 0, 8192));
     let dst = pixel(&rt, (16384, 0, 0, 16384));
-    for (mode, whole, half) in [
-        (
-            Mode::Normal,
-            (12288, 8192, 0, 20480),
-            (14328, 4112, 0, 18440),
-        ),
-        (Mode::Replace, (0, 8192, 0, 8192), (0, 4112, 0, 4112)),
-    ] {
+    for (mode, whole, half) in &MASKED {
         let mut row = [dst; 3];
-        row_blend(mode, src, &[0, 32768, 16448], &mut row);
-        assert!(rt;
-            row == [dst, pixel(&rt, whole), pixel(&rt, half)],
-            "at {mode:?}"
-        );
+        row_blend(*mode, src, &[0, 32768, 16448], &mut row);
+        let want = [dst, pixel(&rt, *whole), pixel(&rt, *half)];
+        check(&rt, row == want, *mode, 3);
     }
 }
 
@@ -168,6 +204,11 @@ fn is_mask(mask: &[u16]) -> bool
     mask.iter().all(|m| *m <= 32768)
 }
 
+/// The rows have the same pixels.
+fn is_same(row: &[Pixel; 70], want: &[Pixel; 70]) -> bool {
+    row == want
+}
+
 /// Fills the prefix of a row, and a copy of it by the plain loop.
 fn fill_both(rt: &impl Abort, mode: Mode, src: Pixel, len: usize)
     requires { len ≤ 70 }
@@ -178,7 +219,7 @@ fn fill_both(rt: &impl Abort, mode: Mode, src: Pixel, len: usize)
         want[n] = blend(mode, src, want[n]);
     }
     row_fill(mode, src, &mut row[..len]);
-    assert!(rt; row == want, "{mode:?} {src:?} at {len}");
+    check(rt, is_same(&row, &want), mode, len);
 }
 
 #[test]
@@ -192,25 +233,46 @@ fn fills_rows_as_the_plain_loop_does(rt: HostRuntime) {
     }
 }
 
-/// Blends the prefix of a row through a mask, and a copy of it by the plain loop. The mask is one
-/// of six numbers throughout, or each of them six times in turn.
-fn blend_both(rt: &impl Abort, mode: Mode, kind: usize, len: usize)
+/// A mask that is one of six numbers throughout, or each of them six times in turn.
+fn some_mask(kind: usize) -> [u16; 70] {
+    let mut mask = [0; 70];
+    for n in 0..70 {
+        mask[n] = PARTS[if kind % 7 < 6 { kind % 7 } else { n / 6 % 6 }];
+    }
+    mask
+}
+
+/// The row whose prefix a pixel is blended on through the mask, by the plain loop.
+fn plainly_blended(
+    mode: Mode,
+    src: Pixel,
+    mask: &[u16; 70],
+    row: [Pixel; 70],
+    len: usize,
+) -> [Pixel; 70]
     requires { len ≤ 70 }
 {
-    let src = some_pixel(rt, kind / 7);
-    let mut mask = [0; 70];
-    let mut row = some_row(rt, 1);
     let mut want = row;
     for n in 0..len {
-        mask[n] = PARTS[if kind % 7 < 6 { kind % 7 } else { n / 6 % 6 }];
         if mask[n] > 0 && mask[n] <= ONE {
             want[n] = blend(mode, fade(src, mask[n]), want[n]);
         }
     }
+    want
+}
+
+/// Blends the prefix of a row through a mask, and a copy of it by the plain loop.
+fn blend_both(rt: &impl Abort, mode: Mode, kind: usize, len: usize)
+    requires { len ≤ 70 }
+{
+    let src = some_pixel(rt, kind / 7);
+    let mask = some_mask(kind);
+    let mut row = some_row(rt, 1);
+    let want = plainly_blended(mode, src, &mask, row, len);
     let mask = &mask[..len];
     assert!(rt; is_mask(mask));
     row_blend(mode, src, mask, &mut row[..len]);
-    assert!(rt; row == want, "{mode:?} {src:?} {kind} at {len}");
+    check(rt, is_same(&row, &want), mode, len);
 }
 
 #[test]
@@ -236,7 +298,7 @@ fn merge_both(rt: &impl Abort, mode: Mode, by: u16, len: usize)
         want[n] = blend(mode, fade(sources[n], by), want[n]);
     }
     row_merge(mode, by, &sources[..len], &mut row[..len]);
-    assert!(rt; row == want, "{mode:?} {by} at {len}");
+    check(rt, is_same(&row, &want), mode, len);
 }
 
 #[test]

@@ -104,23 +104,39 @@ fn drawn(
     assert!(rt; width <= 4 && height <= 4);
     assert!(rt; pixels.len() == width as usize * height as usize);
     draw_pixels(alloc, command, width, height, &mut pixels).expect(rt, "memory");
-    assert!(rt; pixels.as_slice() == want, "{command:?}");
+    assert!(rt; pixels.as_slice() == want);
+}
+
+/// The pixel of a letter: R for red, and B for blue.
+fn pixel_of(letter: u8) -> Pixel {
+    match letter {
+        b'R' => of_argb(RED),
+        b'B' => of_argb(BLUE),
+        _ => CLEAR,
+    }
+}
+
+/// The pixels of four letters.
+fn pixels_of([a, b, c, d]: [u8; 4]) -> [Pixel; 4] {
+    [pixel_of(a), pixel_of(b), pixel_of(c), pixel_of(d)]
+}
+
+/// Sizes of a dab, and the letters of the pixels that it leaves.
+static DISCS: [(u8, [u8; 4]); 4] = [(1, *b"R..."), (2, *b"R..."), (3, *b"RRRR"), (4, *b"RRR.")];
+
+/// A round dab covers these of four pixels.
+fn check_disc(rt: &impl Abort, alloc: Global, size: u8, letters: [u8; 4]) {
+    let command = red_dabs(rt, alloc, true, (0, 0), &[dab(0, 0, size, 255)]);
+    drawn(rt, alloc, &command, 2, 2, &[CLEAR; 4], &pixels_of(letters));
+    assert!(rt; covers(&command, 0, 0));
+    assert!(rt; covers(&command, 1, 0) == (size > 2));
+    assert!(rt; covers(&command, 1, 1) == (size == 3));
 }
 
 #[test]
 fn round_dabs_cover_a_disc(rt: HostRuntime) {
-    let red = of_argb(RED);
-    for (size, want) in [
-        (1, [red, CLEAR, CLEAR, CLEAR]),
-        (2, [red, CLEAR, CLEAR, CLEAR]),
-        (3, [red, red, red, red]),
-        (4, [red, red, red, CLEAR]),
-    ] {
-        let command = red_dabs(&rt, rt.alloc(), true, (0, 0), &[dab(0, 0, size, 255)]);
-        drawn(&rt, rt.alloc(), &command, 2, 2, &[CLEAR; 4], &want);
-        assert!(rt; covers(&command, 0, 0));
-        assert!(rt; covers(&command, 1, 0) == (size > 2), "size {size}");
-        assert!(rt; covers(&command, 1, 1) == (size == 3), "size {size}");
+    for (size, letters) in &DISCS {
+        check_disc(&rt, rt.alloc(), *size, *letters);
     }
 }
 
@@ -151,25 +167,43 @@ fn painted_tiles(pixels: &[Pixel]) -> [[bool; 5]; 5] {
     tiles
 }
 
+/// A dab: whether it is round, and its place. Then the columns and rows that it paints.
+type Dabbed = (bool, (i32, i32), (usize, usize, usize, usize));
+
+static GREATEST: [Dabbed; 7] = [
+    (true, (160, 160), (33, 287, 33, 287)),
+    (false, (160, 160), (33, 287, 33, 287)),
+    (true, (-100, 160), (0, 27, 81, 239)),
+    (false, (-100, 400), (0, 27, 273, 319)),
+    (false, (-127, -127), (0, 0, 0, 0)),
+    (false, (-128, 0), (320, 0, 320, 0)),
+    (true, (i32::MAX, i32::MIN), (320, 0, 320, 0)),
+];
+
+/// Tiles of five by five, without those at the corners.
+const NO_CORNERS: [[bool; 5]; 5] = [
+    [false, true, true, true, false],
+    [true; 5],
+    [true; 5],
+    [true; 5],
+    [false, true, true, true, false],
+];
+
+/// The pixels of a canvas of 320 by 320 after a command.
+fn drawn_on_blank(rt: &impl Abort, alloc: Global, command: &Draw) -> Vec<Pixel> {
+    let mut pixels = vec![in alloc; CLEAR; 102_400].expect(rt, "memory");
+    draw_pixels(alloc, command, 320, 320, &mut pixels).expect(rt, "memory");
+    pixels
+}
+
 #[test]
 fn dabs_of_the_greatest_size_are_clipped(rt: HostRuntime) {
-    for (round, (x, y), want) in [
-        (true, (160, 160), (33, 287, 33, 287)),
-        (false, (160, 160), (33, 287, 33, 287)),
-        (true, (-100, 160), (0, 27, 81, 239)),
-        (false, (-100, 400), (0, 27, 273, 319)),
-        (false, (-127, -127), (0, 0, 0, 0)),
-        (false, (-128, 0), (320, 0, 320, 0)),
-        (true, (i32::MAX, i32::MIN), (320, 0, 320, 0)),
-    ] {
-        let command = red_dabs(&rt, rt.alloc(), round, (x, y), &[dab(0, 0, 255, 255)]);
-        let mut pixels = vec![in rt.alloc(); CLEAR; 102_400].expect(&rt, "memory");
-        draw_pixels(rt.alloc(), &command, 320, 320, &mut pixels).expect(&rt, "memory");
-        assert!(rt; painted(&pixels, 320) == want, "round {round} at {x} {y}");
-        if round && x == 160 {
-            let (edge, inner) = ([false, true, true, true, false], [true; 5]);
-            let tiles = [edge, inner, inner, inner, edge];
-            assert!(rt; painted_tiles(&pixels) == tiles);
+    for (round, at, want) in &GREATEST {
+        let command = red_dabs(&rt, rt.alloc(), *round, *at, &[dab(0, 0, 255, 255)]);
+        let pixels = drawn_on_blank(&rt, rt.alloc(), &command);
+        assert!(rt; painted(&pixels, 320) == *want);
+        if *round && at.0 == 160 {
+            assert!(rt; painted_tiles(&pixels) == NO_CORNERS);
         }
     }
 }
@@ -189,52 +223,62 @@ fn dabs_stand_by_the_sums_of_their_differences(rt: HostRuntime) {
     drawn(&rt, rt.alloc(), &command, 4, 2, &[CLEAR; 8], &want);
 }
 
+/// A move's column, its width and where to, and the letters of the three pixels after it.
+static MOVES: [(u32, u32, (i32, i32), [u8; 4]); 7] = [
+    (0, 2, (1, 0), *b".RB|"),
+    (0, 2, (-1, 0), *b"B..|"),
+    (0, 2, (0, 0), *b"RB.|"),
+    (0, 2, (0, 1), *b"...|"),
+    (1, 4_294_967_295, (0, 0), *b"B..|"),
+    (3, 1, (0, 0), *b"RB.|"),
+    (1, 1, (i32::MIN, i32::MAX), *b"R..|"),
+];
+
 #[test]
 fn moves_blend_on_what_they_leave_clear(rt: HostRuntime) {
     let (red, blue) = (of_argb(RED), of_argb(BLUE));
-    for (sx, w, to, want) in [
-        (0, 2, (1, 0), [CLEAR, red, blue]),
-        (0, 2, (-1, 0), [blue, CLEAR, CLEAR]),
-        (0, 2, (0, 0), [red, blue, CLEAR]),
-        (0, 2, (0, 1), [CLEAR, CLEAR, CLEAR]),
-        (1, 4_294_967_295, (0, 0), [blue, CLEAR, CLEAR]),
-        (3, 1, (0, 0), [red, blue, CLEAR]),
-        (1, 1, (i32::MIN, i32::MAX), [red, CLEAR, CLEAR]),
-    ] {
-        let before = [red, blue, CLEAR];
-        drawn(&rt, rt.alloc(), &move_of(sx, w, to), 3, 1, &before, &want);
+    let before = [red, blue, CLEAR];
+    for (sx, w, to, letters) in &MOVES {
+        let want = pixels_of(*letters);
+        let command = move_of(*sx, *w, *to);
+        drawn(&rt, rt.alloc(), &command, 3, 1, &before, &want[..3]);
     }
+}
+
+/// Where a tile is put, how often it is repeated, and which tiles it paints, of two by two.
+static PUTS: [(u16, u16, u16, [bool; 4]); 6] = [
+    (0, 0, 0, [true, false, false, false]),
+    (0, 0, 1, [true, true, false, false]),
+    (1, 0, 1, [false, true, true, false]),
+    (1, 0, 65_535, [false, true, true, true]),
+    (2, 0, 9, [false; 4]),
+    (0, 2, 9, [false; 4]),
+];
+
+/// The tiles of a canvas of 65 by 128 that are painted are these.
+fn paints_tiles(pixels: &[Pixel], put: Pixel, want: &[bool; 4]) -> bool {
+    let mut same = true;
+    for (k, pixel) in pixels.iter().enumerate() {
+        let tile = k / 4160 % 2 * 2 + k % 65 / 64;
+        same = same && (*pixel == put) == want[tile];
+    }
+    same
 }
 
 #[test]
 fn tiles_are_put_row_by_row(rt: HostRuntime) {
-    let r = 5;
     let content = TilePixel {
-        r,
+        r: 5,
         g: 0,
         b: 0,
         a: 7,
     };
     let put = pixel(&rt, (5, 0, 0, 7));
-    // the tiles with these numbers are painted, of two by two on 65 by 128
-    for (col, row, repeat, want) in [
-        (0, 0, 0, [true, false, false, false]),
-        (0, 0, 1, [true, true, false, false]),
-        (1, 0, 1, [false, true, true, false]),
-        (1, 0, 65_535, [false, true, true, true]),
-        (2, 0, 9, [false; 4]),
-        (0, 2, 9, [false; 4]),
-    ] {
-        let command = put_tile(col, row, repeat, TileContent::Solid(content));
+    for (col, row, repeat, want) in &PUTS {
+        let command = put_tile(*col, *row, *repeat, TileContent::Solid(content));
         let mut pixels = vec![in rt.alloc(); CLEAR; 8320].expect(&rt, "memory");
         draw_pixels(rt.alloc(), &command, 65, 128, &mut pixels).expect(&rt, "memory");
-        for (k, pixel) in pixels.iter().enumerate() {
-            let tile = k / 4160 % 2 * 2 + k % 65 / 64;
-            assert!(rt;
-                (*pixel == put) == want[tile],
-                "{col} {row} {repeat} at {k}"
-            );
-        }
+        assert!(rt; paints_tiles(&pixels, put, want));
     }
 }
 
@@ -275,28 +319,33 @@ fn a_tile_of_pixels_is_put_again(rt: HostRuntime) {
             130 | 194 => of_argb(RED),
             _ => CLEAR,
         };
-        assert!(rt; *pixel == want, "at {k}");
+        assert!(rt; *pixel == want);
     }
 }
 
+/// A fill's mode, where it is, and its colour.
+type Fill = (u8, (u32, u32, u32, u32), u32);
+
+/// A fill on four red pixels leaves these.
+fn check_fill(rt: &impl Abort, alloc: Global, (mode, at, color): Fill, want: &[Pixel; 4]) {
+    let command = fill(mode, at, color);
+    drawn(rt, alloc, &command, 2, 2, &[of_argb(RED); 4], want);
+}
+
 #[test]
-fn fills_and_images_blend_where_they_cover(rt: HostRuntime) {
-    let (red, blue) = (of_argb(RED), of_argb(BLUE));
+fn fills_blend_where_they_cover(rt: HostRuntime) {
+    let red = of_argb(RED);
     let half = pixel(&rt, (16320, 0, 0, 16320));
-    for (mode, at, color, want) in [
-        (0, (1, 0, 1, 9), 0x8012_3456, [red, half, red, half]),
-        (
-            1,
-            (0, 1, 4_294_967_295, 4_294_967_295),
-            BLUE,
-            [red, red, blue, blue],
-        ),
-        (3, (0, 0, 2, 2), BLUE, [red; 4]),
-        (255, (2, 0, 1, 1), BLUE, [red; 4]),
-    ] {
-        let command = fill(mode, at, color);
-        drawn(&rt, rt.alloc(), &command, 2, 2, &[red; 4], &want);
-    }
+    let faded = [red, half, red, half];
+    check_fill(&rt, rt.alloc(), (0, (1, 0, 1, 9), 0x8012_3456), &faded);
+    let below = (1, (0, 1, 4_294_967_295, 4_294_967_295), BLUE);
+    check_fill(&rt, rt.alloc(), below, &pixels_of(*b"RRBB"));
+    check_fill(&rt, rt.alloc(), (3, (0, 0, 2, 2), BLUE), &[red; 4]);
+    check_fill(&rt, rt.alloc(), (255, (2, 0, 1, 1), BLUE), &[red; 4]);
+}
+
+#[test]
+fn images_blend_where_they_cover(rt: HostRuntime) {
     let colors = Vec::from_slice(rt.alloc(), &[BLUE, RED, 0, BLUE]).expect(&rt, "memory");
     let image = Draw::PutImage {
         layer: 1,
@@ -307,8 +356,8 @@ fn fills_and_images_blend_where_they_cover(rt: HostRuntime) {
         h: 2,
         colors: Colors::from_vec(colors),
     };
-    let want = [red, blue, red, red];
-    drawn(&rt, rt.alloc(), &image, 2, 2, &[red; 4], &want);
+    let (before, want) = (pixels_of(*b"RRRR"), pixels_of(*b"RBRR"));
+    drawn(&rt, rt.alloc(), &image, 2, 2, &before, &want);
 }
 
 #[test]
@@ -326,7 +375,7 @@ fn a_window_is_drawn_within_its_stride(rt: HostRuntime) {
     let mut pixels = [CLEAR; 10];
     draw_region(&command, &region, 4, &mut pixels);
     for (k, pixel) in pixels.iter().enumerate() {
-        assert!(rt; (*pixel == red) == (k == 4 || k == 5), "at {k}");
+        assert!(rt; (*pixel == red) == (k == 4 || k == 5));
     }
     assert!(rt; pixel_after(&command, 2, 2, CLEAR) == red);
     assert!(rt; pixel_after(&command, 3, 2, CLEAR) == CLEAR);

@@ -30,53 +30,83 @@ impl TilePainter for FirstWhite {
     }
 }
 
-/// Pixels of a grid and of the one that it was shared from, after both were written to.
-fn check_shared<T: Ledger>(rt: &impl Abort, alloc: Global, tiles: &mut Steps<T>) {
-    let mut grid = Grid::new(alloc, 3, 2).expect(rt, "memory");
+/// Writes a copy of a tile with a white pixel to the right of the lower row.
+fn write_copy<T: Ledger>(rt: &impl Abort, alloc: Global, grid: &mut Grid, tiles: &mut Steps<T>) {
     let mut tile = Tile::blank(alloc, tiles).expect(rt, "memory");
     tile.set(5, 7, Pixel::WHITE);
     let copy = tile.copy(alloc, tiles).expect(rt, "memory");
+    assert!(rt; grid.cols() == 3 && grid.rows() == 2);
     grid.write(2, 1, copy).expect(rt, "memory");
-    let mut other = grid.share().expect(rt, "memory");
-    other
-        .paint(2, 1, &FirstWhite {}, tiles)
-        .expect(rt, "memory");
+}
+
+/// Writes a white tile to the left of the lower row.
+fn write_white<T: Ledger>(rt: &impl Abort, alloc: Global, grid: &mut Grid, tiles: &mut Steps<T>) {
     let solid = Tile::solid(alloc, Pixel::WHITE, tiles).expect(rt, "memory");
+    assert!(rt; grid.cols() == 3 && grid.rows() == 2);
     grid.write(0, 1, solid).expect(rt, "memory");
-    let all = CellArea {
+}
+
+/// Makes the first pixel of the lower row's right tile white.
+fn paint_one<T: Ledger>(rt: &impl Abort, grid: &mut Grid, tiles: &mut Steps<T>) {
+    assert!(rt; grid.cols() == 3 && grid.rows() == 2);
+    grid.paint(2, 1, &FirstWhite {}, tiles).expect(rt, "memory");
+}
+
+/// The upper row of a grid.
+fn upper_row() -> CellArea
+    ensures { result ≡ record {
+      left = 0;
+      right = 3;
+      top = 0;
+      bottom = 1;
+    } }
+{
+    CellArea {
         left: 0,
         right: 3,
         top: 0,
         bottom: 1,
-    };
-    other
-        .paint_area(all, &FirstWhite {}, tiles)
-        .expect(rt, "memory");
-    other
-        .paint_each(all, &FirstWhite {}, tiles)
-        .expect(rt, "memory");
-    let (of_grid, of_other) = (
-        [
-            grid.get(64, 0),
-            grid.get(133, 71),
-            grid.get(128, 64),
-            grid.get(63, 127),
-        ],
-        [
-            other.get(64, 0),
-            other.get(133, 71),
-            other.get(128, 64),
-            other.get(63, 127),
-        ],
-    );
-    assert_eq!(rt;
-        of_grid,
-        [Pixel::CLEAR, Pixel::WHITE, Pixel::CLEAR, Pixel::WHITE]
-    );
-    assert_eq!(rt;
-        of_other,
-        [Pixel::WHITE, Pixel::WHITE, Pixel::WHITE, Pixel::CLEAR]
-    );
+    }
+}
+
+/// Makes the first pixel of each tile of the upper row white.
+fn paint_row<T: Ledger>(rt: &impl Abort, grid: &mut Grid, tiles: &mut Steps<T>) {
+    assert!(rt; grid.cols() == 3 && grid.rows() == 2);
+    let painted = grid.paint_area(upper_row(), &FirstWhite {}, tiles);
+    painted.expect(rt, "memory");
+}
+
+/// Makes the first pixel of each tile of the upper row white, tile by tile.
+fn paint_each<T: Ledger>(rt: &impl Abort, grid: &mut Grid, tiles: &mut Steps<T>) {
+    assert!(rt; grid.cols() == 3 && grid.rows() == 2);
+    let painted = grid.paint_each(upper_row(), &FirstWhite {}, tiles);
+    painted.expect(rt, "memory");
+}
+
+/// A grid has these pixels at (64, 0), (133, 71), (128, 64) and (63, 127).
+fn check_pixels(rt: &impl Abort, grid: &Grid, want: [Pixel; 4]) {
+    assert!(rt; grid.cols() == 3 && grid.rows() == 2);
+    let pixels = [
+        grid.get(64, 0),
+        grid.get(133, 71),
+        grid.get(128, 64),
+        grid.get(63, 127),
+    ];
+    assert!(rt; pixels == want);
+}
+
+/// Pixels of a grid and of the one that it was shared from, after both were written to.
+fn check_shared<T: Ledger>(rt: &impl Abort, alloc: Global, tiles: &mut Steps<T>) {
+    let (clear, white) = (Pixel::CLEAR, Pixel::WHITE);
+    let mut grid = Grid::new(alloc, 3, 2).expect(rt, "memory");
+    write_copy(rt, alloc, &mut grid, tiles);
+    let mut other = grid.share().expect(rt, "memory");
+    paint_one(rt, &mut other, tiles);
+    write_white(rt, alloc, &mut grid, tiles);
+    paint_row(rt, &mut other, tiles);
+    paint_each(rt, &mut other, tiles);
+    check_pixels(rt, &grid, [clear, white, clear, white]);
+    check_pixels(rt, &other, [white, white, white, clear]);
 }
 
 /// Looks at grids with a counter over this blank.

@@ -45,7 +45,7 @@ fn served(rt: &impl Abort, alloc: Global, keeper: MemKeeper, count: usize) -> Se
 fn resumed(rt: &impl Abort, alloc: Global, keeper: MemKeeper) -> Session<MemKeeper> {
     match Session::resume(alloc, keeper) {
         Ok(session) => session,
-        Err(ResumeError { why, .. }) => panic!(rt; "{why:?}"),
+        Err(_) => panic!(rt; "not resumed"),
     }
 }
 
@@ -81,7 +81,7 @@ fn same_sessions(
         assert!(rt; session.conns(conn) == other.conns(conn));
         let frames = feed(rt, alloc, session, conn);
         let others = feed(rt, alloc, other, conn);
-        assert!(rt; frames.as_slice() == others.as_slice(), "{conn}");
+        assert!(rt; frames.as_slice() == others.as_slice());
     }
 }
 
@@ -217,7 +217,7 @@ fn comes(rt: &impl Abort, alloc: Global, kept: &Kept) {
         Err(ResumeError { keeper, why }) => {
             holds(rt, &keeper, kept.rows);
             let ResumeFault::BadRow { n, row } = why else {
-                panic!(rt; "{why:?}");
+                panic!(rt; "another fault");
             };
             assert!(rt; Some(n) == kept.bad);
             let told = kept.rows.get(n as usize);

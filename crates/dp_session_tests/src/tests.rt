@@ -16,7 +16,7 @@ use std::process::Abort;
 
 /// What happens to a session: a user asks to join under a name, or the connection of a number says
 /// something or is closed. `Part` is a command that belongs to a reset.
-#[derive(Clone, Copy, Debug)]
+#[derive(Clone, Copy)]
 pub(crate) enum Deed {
     Open(&'static [u8]),
     Point(u32),
@@ -88,7 +88,7 @@ fn serve<K: Keeper>(
 ) {
     let event = event(rt, alloc, deed);
     let given = session.step(&event).expect(rt, "memory");
-    assert!(rt; given == answer, "{deed:?}");
+    assert!(rt; given == answer);
 }
 
 /// An Open that has this answer.
@@ -121,7 +121,7 @@ fn check_pull<K: Keeper>(
         Answer::Entries { at, list, .. } => Some((at, list.as_slice().len())),
         Answer::Gone => None,
     };
-    assert!(rt; given == wanted, "{conn} {epoch} {at} {max}");
+    assert!(rt; given == wanted);
 }
 
 /// Checks that a page of frames is what a Pull of as many entries is answered.
@@ -345,7 +345,7 @@ fn run_to_fault(rt: &impl Abort, alloc: Global, session: &mut Session<MemKeeper>
         let event = event(rt, alloc, *deed);
         let answer = session.step(&event).expect(rt, "memory");
         let is_fault = answer == Reply::StoreFault { count: 1 };
-        assert!(rt; is_fault == (k + 1 >= call), "{deed:?}");
+        assert!(rt; is_fault == (k + 1 >= call));
     }
 }
 
