@@ -73,6 +73,12 @@ fn numbers_of(rt: &impl Abort, board: &NumberBoard) -> [u64; NUMBERS] {
     numbers
 }
 
+/// A rollback of a blank row of numbers.
+fn blank_rollback(rt: &impl Abort, alloc: Global, depth: u32) -> Rollback<NumberBoard> {
+    let blank = NumberBoard::new(alloc, NUMBERS).expect(rt, "memory");
+    Rollback::new(alloc, blank, depth).expect(rt, "memory")
+}
+
 /// Takes an act, and once more if memory was refused.
 fn take<D: Ledger, T: Ledger>(
     rollback: &mut Rollback<NumberBoard>,
@@ -117,8 +123,7 @@ fn check_script<D: Ledger, T: Ledger>(
     draws: &mut Steps<D>,
     tiles: &mut Steps<T>,
 ) {
-    let blank = NumberBoard::new(alloc, NUMBERS).expect(rt, "memory");
-    let mut rollback = Rollback::new(alloc, blank, depth).expect(rt, "memory");
+    let mut rollback = blank_rollback(rt, alloc, depth);
     let mut acts = Vec::new(alloc);
     for (k, word) in script.split_whitespace().enumerate() {
         let act = act_of(rt, word, k);
@@ -188,6 +193,48 @@ fn script_of(rt: &impl Abort, alloc: Global, groups: usize, commands: Option<usi
     script
 }
 
+/// How many acts were taken, and the most that were held among the first ten thousand.
+#[derive(Clone, Copy)]
+struct Held {
+    count: usize,
+    most: usize,
+}
+
+/// Gets an act ready, and takes it.
+fn put_act<D: Ledger, T: Ledger>(
+    rt: &impl Abort,
+    rollback: &mut Rollback<NumberBoard>,
+    act: &UserAct<SetNumber>,
+    draws: &mut Steps<D>,
+    tiles: &mut Steps<T>,
+) {
+    let ready = rollback.ready(act.user, &act.act, draws, tiles);
+    let ready = ready.expect(rt, "memory");
+    assert!(rt; rollback.spare() > 0);
+    rollback.put(ready);
+}
+
+/// Takes the acts of a script. From the ten thousandth act on, no more are held than before it.
+fn put_script<D: Ledger, T: Ledger>(
+    rt: &impl Abort,
+    rollback: &mut Rollback<NumberBoard>,
+    script: &str,
+    mut held: Held,
+    draws: &mut Steps<D>,
+    tiles: &mut Steps<T>,
+) -> Held {
+    for word in script.split_whitespace() {
+        let act = act_of(rt, word, held.count % 1000);
+        put_act(rt, rollback, &act, draws, tiles);
+        held.count = held.count.saturating_add(1);
+        if held.count < 10_000 {
+            held.most = rollback.kept().max(held.most);
+        }
+        assert!(rt; rollback.kept() <= held.most || held.count < 10_000);
+    }
+    held
+}
+
 /// Takes a script again and again, more than a hundred thousand acts. None is held beyond as many
 /// as were held among the first ten thousand.
 fn check_memory<D: Ledger, T: Ledger>(
@@ -203,55 +250,85 @@ fn check_memory<D: Ledger, T: Ledger>(
 {
     let mut draws = Steps::<D>::new(draw_blank);
     let mut tiles = Steps::<T>::new(tile_blank);
-    let blank = NumberBoard::new(alloc, NUMBERS).expect(rt, "memory");
-    let mut rollback = Rollback::new(alloc, blank, 30).expect(rt, "memory");
+    let mut rollback = blank_rollback(rt, alloc, 30);
     let script = script_of(rt, alloc, 60, Some(8));
-    let mut most = 0;
-    let mut count: usize = 0;
+    let mut held = Held { count: 0, most: 0 };
     for _ in 0..175 {
-        for word in script.as_str().split_whitespace() {
-            let act = act_of(rt, word, count % 1000);
-            let ready = rollback.ready(act.user, &act.act, &mut draws, &mut tiles);
-            let ready = ready.expect(rt, "memory");
-            assert!(rt; rollback.spare() > 0);
-            rollback.put(ready);
-            count = count.saturating_add(1);
-            if count < 10_000 {
-                most = rollback.kept().max(most);
-            }
-            assert!(rt; rollback.kept() <= most || count < 10_000);
-        }
+        let script = script.as_str();
+        held = put_script(rt, &mut rollback, script, held, &mut draws, &mut tiles);
     }
-    assert!(rt; count > 100_000);
-    assert!(rt; most < 500);
+    assert!(rt; held.count > 100_000);
+    assert!(rt; held.most < 500);
 }
 
-/// One point, and some thousand commands after it: two savepoints at most are held, and the point
-/// is undone and brought back.
+/// A script of one point, and of some thousand commands after it. The point is undone, brought back
+/// and undone.
+fn long_script(alloc: Global) -> Result<String, AllocError> {
+    let mut script = String::new(alloc);
+    script.push_str("D2 D1 P1")?;
+    for _ in 0..1500 {
+        script.push_str(" D1")?;
+    }
+    script.push_str(" U1 R1 D1 U1")?;
+    Ok(script)
+}
+
+/// Takes the acts of a script, and gives them: two savepoints at most are held.
+fn take_acts<D: Ledger, T: Ledger>(
+    rt: &impl Abort,
+    alloc: Global,
+    rollback: &mut Rollback<NumberBoard>,
+    script: &str,
+    draws: &mut Steps<D>,
+    tiles: &mut Steps<T>,
+) -> Vec<UserAct<SetNumber>> {
+    let mut acts = Vec::new(alloc);
+    for (place, word) in script.split_whitespace().enumerate() {
+        let act = act_of(rt, word, place);
+        take(rollback, &act, draws, tiles).expect(rt, "memory");
+        acts.push(act).expect(rt, "memory");
+        assert!(rt; rollback.saves() <= 2);
+    }
+    acts
+}
+
+/// Takes one point and some thousand commands, with two savepoints at most, and compares at the
+/// end.
 fn check_saves<D: Ledger, T: Ledger>(
     rt: &impl Abort,
     alloc: Global,
     draws: &mut Steps<D>,
     tiles: &mut Steps<T>,
 ) {
-    let blank = NumberBoard::new(alloc, NUMBERS).expect(rt, "memory");
-    let mut rollback = Rollback::new(alloc, blank, 30).expect(rt, "memory");
-    let mut script = String::new(alloc);
-    script.push_str("D2 D1 P1").expect(rt, "memory");
-    for _ in 0..1500 {
-        script.push_str(" D1").expect(rt, "memory");
-    }
-    script.push_str(" U1 R1 D1 U1").expect(rt, "memory");
-    let mut acts = Vec::new(alloc);
-    for (place, word) in script.as_str().split_whitespace().enumerate() {
-        let act = act_of(rt, word, place);
-        take(&mut rollback, &act, draws, tiles).expect(rt, "memory");
-        acts.push(act).expect(rt, "memory");
-        assert!(rt; rollback.saves() <= 2);
-    }
+    let mut rollback = blank_rollback(rt, alloc, 30);
+    let script = long_script(alloc).expect(rt, "memory");
+    let acts = take_acts(rt, alloc, &mut rollback, script.as_str(), draws, tiles);
     let numbers = numbers_of(rt, rollback.board());
     assert!(rt; numbers == replayed(rt, alloc, 30, &acts));
     assert!(rt; numbers[1] == 2);
+}
+
+/// The acts of a script.
+fn acts_of(rt: &impl Abort, alloc: Global, script: &str) -> Vec<UserAct<SetNumber>> {
+    let mut acts = Vec::new(alloc);
+    for (place, word) in script.split_whitespace().enumerate() {
+        acts.push(act_of(rt, word, place)).expect(rt, "memory");
+    }
+    acts
+}
+
+/// Has a board trail the acts of a script.
+fn trail<D: Ledger, T: Ledger>(
+    rt: &impl Abort,
+    board: &mut TrailingBoard<NumberBoard>,
+    script: &str,
+    draws: &mut Steps<D>,
+    tiles: &mut Steps<T>,
+) {
+    for (place, word) in script.split_whitespace().enumerate() {
+        let act = act_of(rt, word, place);
+        board.take(act, draws, tiles).expect(rt, "memory");
+    }
 }
 
 /// Has a board trail some two thousand acts, many more than it holds, and compares at the end.
@@ -265,13 +342,8 @@ fn check_trailing<D: Ledger, T: Ledger>(
     let script = script_of(rt, alloc, 200, None);
     let blank = NumberBoard::new(alloc, NUMBERS).expect(rt, "memory");
     let mut board = TrailingBoard::new(alloc, depth, blank).expect(rt, "memory");
-    let mut acts = Vec::new(alloc);
-    for (place, word) in script.as_str().split_whitespace().enumerate() {
-        board
-            .take(act_of(rt, word, place), draws, tiles)
-            .expect(rt, "memory");
-        acts.push(act_of(rt, word, place)).expect(rt, "memory");
-    }
+    trail(rt, &mut board, script.as_str(), draws, tiles);
+    let acts = acts_of(rt, alloc, script.as_str());
     assert!(rt; acts.len() > 2000);
     let board = board.finish(draws, tiles).expect(rt, "memory");
     assert!(rt; numbers_of(rt, &board) == replayed(rt, alloc, depth, &acts));

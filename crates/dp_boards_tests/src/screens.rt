@@ -86,6 +86,37 @@ fn row_of<V: BoardView>(board: &V) -> Row {
     row
 }
 
+/// Draws an act, if it is a command.
+fn draw_act<D: Ledger, T: Ledger>(
+    rt: &impl Abort,
+    board: &mut PlainBoard,
+    act: &Act<Draw>,
+    draws: &mut Steps<D>,
+    tiles: &mut Steps<T>,
+) {
+    if let Act::Draw(op) = act {
+        board.draw(op, draws, tiles).expect(rt, "memory");
+    }
+}
+
+/// The board by the plain rule: that of the acts taken that are drawn.
+fn replayed<D: Ledger, T: Ledger>(
+    rt: &impl Abort,
+    alloc: Global,
+    taken: &[UserAct<Draw>],
+    draws: &mut Steps<D>,
+    tiles: &mut Steps<T>,
+) -> PlainBoard {
+    let mut board = PlainBoard::new(alloc);
+    let flags = drawn_flags(alloc, DEPTH, taken).expect(rt, "memory");
+    for (act, drawn) in taken.iter().zip(flags.as_slice()) {
+        if *drawn {
+            draw_act(rt, &mut board, &act.act, draws, tiles);
+        }
+    }
+    board
+}
+
 /// The rows by the plain rule: that of the acts taken that are drawn, and that with the commands of
 /// the words said.
 fn wanted<B: Board<Op = Draw>, D: Ledger, T: Ledger>(
@@ -94,20 +125,11 @@ fn wanted<B: Board<Op = Draw>, D: Ledger, T: Ledger>(
     draws: &mut Steps<D>,
     tiles: &mut Steps<T>,
 ) -> (Row, Row) {
-    let mut board = PlainBoard::new(painter.alloc);
-    let flags = drawn_flags(painter.alloc, DEPTH, &painter.taken).expect(rt, "memory");
-    for (act, drawn) in painter.taken.iter().zip(flags.as_slice()) {
-        if let Act::Draw(op) = &act.act
-            && *drawn
-        {
-            board.draw(op, draws, tiles).expect(rt, "memory");
-        }
-    }
+    let mut board = replayed(rt, painter.alloc, &painter.taken, draws, tiles);
     let confirmed = row_of(&board);
     for word in &painter.said {
-        if let Act::Draw(op) = &word.act(painter.alloc) {
-            board.draw(op, draws, tiles).expect(rt, "memory");
-        }
+        let act = word.act(painter.alloc);
+        draw_act(rt, &mut board, &act, draws, tiles);
     }
     (confirmed, row_of(&board))
 }

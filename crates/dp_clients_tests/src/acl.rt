@@ -52,19 +52,22 @@ fn rights_of_control_messages(rt: HostRuntime) {
     for (kind, digits, users) in &CONTROLS {
         let entry = entry_of(&rt, alloc, 0, *kind, digits);
         for user in 1..5u8 {
-            assert!(rt;
-                rights.permits(user, &entry.msg) == users.as_bytes().contains(&(b'0' + user)),
-                "{kind} {digits} of user {user}"
-            );
+            let may = users.as_bytes().contains(&(b'0' + user));
+            assert!(rt; rights.permits(user, &entry.msg) == may);
         }
     }
+    check_carried(&rt, alloc, &mut rights);
+}
+
+/// Who is operator, and the kinds of the messages that carry the rights of users 1 to 3.
+fn check_carried(rt: &impl Abort, alloc: Global, rights: &mut Rights) {
     assert!(rt; rights.is_operator(1) && !rights.is_operator(2));
-    rights.reserve(1).expect(&rt, "memory");
-    let present = Vec::from_slice(alloc, &[1, 2, 3]).expect(&rt, "memory");
-    let carried = rights.carry(&Ids::from_vec(present)).expect(&rt, "memory");
+    rights.reserve(1).expect(rt, "memory");
+    let present = Vec::from_slice(alloc, &[1, 2, 3]).expect(rt, "memory");
+    let carried = rights.carry(&Ids::from_vec(present)).expect(rt, "memory");
     let mut kinds = Vec::new(alloc);
     for meta in &carried {
-        kinds.push(kind_of_meta(meta)).expect(&rt, "memory");
+        kinds.push(kind_of_meta(meta)).expect(rt, "memory");
     }
     assert!(rt; kinds.as_slice() == [34, 36, 66, 68].as_slice());
 }

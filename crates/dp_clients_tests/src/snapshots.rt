@@ -4,7 +4,7 @@ ghost use Rattle.std.specs.Prelude.{◌≡◌, ◌<◌};
 
 use dp_board::Board;
 use dp_canvas::Canvas;
-use dp_msg_draw::{Draw, TileContent, TilePixel, TilePixels, Title};
+use dp_msg_draw::{Draw, TileContent, TilePixel, TilePixels, Title, same_draw};
 use dp_plain::{BoardView, PlainBoard};
 use dp_snap::snapshot;
 use dp_steps::Steps;
@@ -94,8 +94,8 @@ fn dotted_tile(rt: &impl Abort, alloc: Global, col: u16, row: u16, place: usize)
 fn check_commands<V: BoardView>(rt: &impl Abort, alloc: Global, board: &V, want: &[Draw]) {
     let given = snapshot(alloc, board).expect(rt, "memory");
     assert!(rt; given.as_slice().len() == want.len());
-    for (k, (command, want)) in given.as_slice().iter().zip(want).enumerate() {
-        assert!(rt; command == want, "{k}: {command:?}");
+    for (command, want) in given.as_slice().iter().zip(want) {
+        assert!(rt; same_draw(command, want));
     }
 }
 

@@ -5,10 +5,11 @@ ghost use Rattle.std.specs.Prelude.{IfOk, IfErr, IfSome, IfNone, OnOk};
 ghost use Rattle.std.specs.Io.KnownBytes.{Appends};
 ghost use Rattle.circular_buffer.specs.Buffer.{buffer};
 ghost use Rattle.dp_client.specs.Client.{welcomed};
+ghost use Rattle.dp_io.specs.Streams.{GrowsByPrefix};
 ghost use Rattle.dp_joining.specs.Greetings.{GreetingFails, NoWelcome, Welcomes};
 ghost use Rattle.dp_joining.specs.Joining.{chat_limit, greeted, hello_bytes, newcomer};
 ghost use Rattle.dp_joining.specs.JoinStanding.{is_welcome};
-ghost use Rattle.dp_joining.specs.Steps.{HasGiven, IsReadable, source_at};
+ghost use Rattle.dp_joining.specs.Steps.{FaultMatchesWriting, HasGiven, IsReadable, source_at};
 
 use crate::chats::{CHAT_LIMIT, ChatLine};
 use crate::join_standing::JoinStanding;
@@ -62,8 +63,7 @@ pub(crate) fn greet<B: ClientBoard, R: Source, S: Sink>(
         (S.faults tx.old) (S.faults tx.new)) }
 {
     let chats = HeapCircularBuffer::with_capacity(alloc, CHAT_LIMIT)?;
-    let name = NameBytes::from_vec(Vec::from_slice(alloc, name.as_slice())?);
-    send(alloc, 0, Msg::Control(Control::Hello { name }), tx)?;
+    say_hello(alloc, name, tx)?;
     let mut reader = EntryReader::new(alloc, 0, LINK_LIMIT);
     let client = welcomed(alloc, &mut reader, rx)?;
     Ok(Greeting {
@@ -71,6 +71,19 @@ pub(crate) fn greet<B: ClientBoard, R: Source, S: Sink>(
         chats,
         reader,
     })
+}
+
+/// Writes a Hello of this name to a link.
+fn say_hello<S: Sink>(alloc: Global, name: &Text, tx: &mut S) -> Result<(), JoinStop>
+    requires { length name.now ≤ 32 }
+    ensures written { OnOk result
+        (Appends (S.held tx.old) (S.held tx.new) (hello_bytes name.now)) }
+    ensures prefix { GrowsByPrefix (S.held tx.old) (S.held tx.new) (hello_bytes name.now) }
+    ensures kept { OnOk result (S.faults tx.new ≡ S.faults tx.old) }
+    ensures fault { IfErr result (FaultMatchesWriting (S.faults tx.old) (S.faults tx.new)) }
+{
+    let name = NameBytes::from_vec(Vec::from_slice(alloc, name.as_slice())?);
+    send(alloc, 0, Msg::Control(Control::Hello { name }), tx)
 }
 
 /// The client that the link's first entry welcomes.
@@ -88,7 +101,9 @@ fn welcomed<B: ClientBoard, R: Source>(
         (NoWelcome (R.left rx.old) (R.faults rx.old) (R.faults rx.new)) }
 {
     let first = pull(alloc, reader, rx)?;
-    match welcome_of(first) {
+    let welcome = welcome_of(&first);
+    drop(first);
+    match welcome {
         Some(welcome) => client_of(alloc, welcome),
         None => Err(JoinStop::NoEntry(LinkCause::Closed)),
     }
@@ -105,11 +120,11 @@ fn client_of<B: ClientBoard>(alloc: Global, welcome: Welcome) -> Result<Client<B
 }
 
 /// What the entry says, if it is a Welcome.
-fn welcome_of(entry: Entry) -> Option<Welcome>
-    ensures some { IfSome result (λ welcome. (name : List ℕ) → greeted name entry.msg ≡ Some
+fn welcome_of(entry: &Entry) -> Option<Welcome>
+    ensures some { IfSome result (λ welcome. (name : List ℕ) → greeted name entry.now.msg ≡ Some
         (newcomer (welcomed welcome.user welcome.epoch welcome.at) name)) }
-    ensures none { IfNone result ((name : List ℕ) → greeted name entry.msg ≡ None) }
-    ensures other { IfNone result (is_welcome entry.msg ≡ false) }
+    ensures none { IfNone result ((name : List ℕ) → greeted name entry.now.msg ≡ None) }
+    ensures other { IfNone result (is_welcome entry.now.msg ≡ false) }
 {
     match &entry.msg {
         Msg::Control(

@@ -71,7 +71,11 @@ impl<B: ClientBoard, R: Source, S: Sink> Joiner<B, R, S> {
             (seen O.held O.faults self.new output.new draws.new tiles.new) action result }
     {
         match action {
-            JoinAction::Say(msg) => self.say(&msg, output, draws, tiles),
+            JoinAction::Say(msg) => {
+                let said = self.say(&msg, output, draws, tiles);
+                drop(msg);
+                said
+            }
             JoinAction::Take { count } => self.take(count, output, draws, tiles),
             JoinAction::View => self.show(Shown::View, output),
             JoinAction::Confirmed => self.show(Shown::Confirmed, output),
@@ -140,7 +144,9 @@ impl<B: ClientBoard, R: Source, S: Sink> Joiner<B, R, S> {
             (length self.new.client.taken ≤ length self.old.client.taken + 1) }
         ensures source { self.new.source ≡ self.old.source }
     {
-        self.take_entry(&entry, output, draws, tiles)
+        let taken = self.take_entry(&entry, output, draws, tiles);
+        drop(entry);
+        taken
     }
 
     /// Takes an entry. If it opens an epoch, the Ack goes out over the link first.

@@ -25,6 +25,7 @@ pub(crate) fn pull<R: Source>(
     match reader.next(alloc, rx) {
         Ok(Some(entry)) => {
             if entry.msg.is_disconnect() {
+                drop(entry);
                 Err(JoinStop::NoEntry(LinkCause::Closed))
             } else {
                 Ok(entry)
@@ -52,5 +53,6 @@ pub(crate) fn pull_taken<R: Source>(
         if !is_ping(&entry.msg) {
             return Ok(entry);
         }
+        drop(entry);
     }
 }

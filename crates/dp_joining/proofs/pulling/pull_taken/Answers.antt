@@ -25,8 +25,8 @@ returns-then-not-is_ping-clause-ok g c =
     (source_at g.R.Source.left g.R.Source.faults c.pull.new.reader c.pull.new.rx) c.pings.invariant
     c.in_ok-entry.entry c.in_ok-entry.ensures.ok (sym c.is_ping.ensures ∙ c.if-not-is_ping.true)
 
-pub pings-preserved-else-not-is_ping-2 : goal.pings-preserved-else-not-is_ping-2
-pings-preserved-else-not-is_ping-2 g c =
+pub pings-preserved : goal.pings-preserved
+pings-preserved g c =
     pings_more (source_at g.R.Source.left g.R.Source.faults c.args.reader.now c.args.rx.now)
     (source_at g.R.Source.left g.R.Source.faults c.pings.reader c.pings.rx)
     (source_at g.R.Source.left g.R.Source.faults c.pull.new.reader c.pull.new.rx) c.pings.invariant
