@@ -26,7 +26,6 @@ use Rattle.dp_joining.specs.Steps.{FaultMatchesWriting, HasGiven}
 use Rattle.dp_joining.specs.Steps.{ReadsOn}
 use Rattle.dp_joining.specs.Steps.{Shows, Source}
 use Rattle.dp_joining.proofs.Along.{either_false}
-use Rattle.dp_joining.proofs.Moving.{grows_not}
 use Rattle.dp_joining.proofs.Reading.{given_begins}
 
 -- what was read of a link that is known
@@ -124,17 +123,6 @@ memory_stops (Err stop) left old now es reads is =
     })
 
 -- ---- the Hello
-
--- memory ran out before the Hello
-pub hello_refused : (name : List ℕ) (left held : Option (List ℕ)) (source sink : ℕ)
-    → GreetingFails name left held held source source sink sink Memory
-hello_refused name left held source sink = record {
-  given = [];
-  waits = λ actions. refl;
-  reads = begins_with_nothing left;
-  wrote = grows_not held (hello_bytes name);
-  fault = (refl, refl);
-}
 
 -- a part of the Hello was written
 pub hello_cut : (name : List ℕ) (left old now : Option (List ℕ)) (source sink sink_now : ℕ)

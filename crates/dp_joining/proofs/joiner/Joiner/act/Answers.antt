@@ -12,8 +12,8 @@ returns-in-Say g c =
     let see = seen g.O.Sink.held g.O.Sink.faults in
     rw c.in-Say.is (does_alone c.say-said.result
     (see c.args.self.now c.args.output.now c.args.draws.now c.args.tiles.now)
-    (see c.say-said.new.self c.say-said.new.output c.say-said.new.draws c.say-said.new.tiles) (Say c.in-Say.msg) refl
-    c.requires.ready
+    (see c.say-said.new.self c.say-said.new.output c.say-said.new.draws c.say-said.new.tiles)
+    (Say c.in-Say.msg) refl c.requires.ready
     c.say-said.ensures.source c.say-said.ensures.taken c.say-said.ensures.changes)
 
 pub returns-in-View : goal.returns-in-View
