@@ -5,7 +5,7 @@ ghost use Rattle.std.specs.Prelude.{All, IfSome, OnOk, OnErr};
 ghost use Rattle.dp_blend.specs.Color.{IsPixel};
 ghost use Rattle.dp_board.specs.Counts.{CountsFew};
 ghost use Rattle.dp_layers.specs.Rows.{content_of, with_content};
-ghost use Rattle.dp_paint.specs.Painting.{IsGridOf};
+ghost use Rattle.dp_shift.specs.Grids.{IsGridOf};
 ghost use Rattle.dp_pixels.specs.Feet.{are_apart, reach};
 ghost use Rattle.dp_plain.specs.Board.{empty_board, IsBoard};
 ghost use Rattle.dp_plain.specs.Commands.{draw, draw_all};

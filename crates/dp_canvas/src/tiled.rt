@@ -3,9 +3,10 @@
 use dp_blend::{Pixel, length_of_canvas};
 use dp_layers::Share;
 use dp_msg_draw::Draw;
-use dp_paint::{blank_grid, move_in_place, paint_in_place, resized_grid};
+use dp_paint::paint_in_place;
 use dp_pixels::{Resize, pixels_stay_pixels};
 use dp_plain::{LayerPixels, known_colors};
+use dp_shift::{blank_grid, move_in_place, resized_grid};
 use dp_steps::Steps;
 use dp_tile::Grid;
 use std::alloc::{AllocError, Global};
@@ -39,7 +40,7 @@ impl LayerPixels for TiledPixels {
     ghost use Rattle.dp_blend.specs.Color.{IsPixel};
     ghost use Rattle.dp_pixels.specs.Feet.{reach};
     ghost use Rattle.dp_tile.specs.Tiles.{grid_pixels};
-    ghost use Rattle.dp_paint.specs.Painting.{IsGridOf};
+    ghost use Rattle.dp_shift.specs.Grids.{IsGridOf};
 
     ghost pixels = { grid_pixels };
 

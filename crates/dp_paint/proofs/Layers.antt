@@ -29,8 +29,9 @@ use Rattle.dp_tile.specs.Tiles.{tile_of, tile_pixels}
 use Rattle.dp_tile.proofs.Tiles.{pixel-tile_of}
 use Rattle.dp_ops.specs.declared.op.TileOp.{TileOp}
 use Rattle.dp_ops.specs.declared.lists.Finish.TheVariants.{Clear}
-use Rattle.dp_paint.specs.Painting.{IsGridOf, IsPainting}
-use Rattle.dp_paint.specs.Reading.{IsResized}
+use Rattle.dp_shift.specs.Grids.{IsGridOf}
+use Rattle.dp_paint.specs.Painting.{IsPainting}
+use Rattle.dp_shift.specs.Reading.{IsResized}
 use Rattle.dp_ops.specs.Ops.{MayWait, OnTile, on_tile, ops_at, tile_after}
 use Rattle.dp_ops.specs.Lists.{HaveSame, IsChangedOn, IsFiled, IsFinished, IsInside}
 use Rattle.dp_paint.specs.Layers.{LayerOf}
@@ -40,7 +41,8 @@ use Rattle.dp_ops.specs.Lists.{StandsOn, waiting_tile}
 use Rattle.dp_ops.proofs.Filed.{waits_stand}
 use Rattle.dp_paint.specs.Layers.{waiting_pixel}
 use Rattle.dp_ops.proofs.Ops.{pixel-tile_after}
-use Rattle.dp_paint.proofs.Painting.{StaysOutside, by_cells, pixel_in, pixel_off}
+use Rattle.dp_paint.proofs.Painting.{StaysOutside, by_cells}
+use Rattle.dp_shift.proofs.AreaLemmas.{pixel_in, pixel_off}
 use Rattle.dp_ops.proofs.Waits.{inside_by, inside_facts}
 use Rattle.dp_ops.proofs.Drawn.{on_canvas}
 

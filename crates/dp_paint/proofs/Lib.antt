@@ -4,11 +4,5 @@ pub mod Bands
 pub mod Unlisted
 pub mod Layers
 pub mod FootLemmas
-pub mod Moving
 pub mod Named
 pub mod Painting
-pub mod Read
-pub mod Resized
-pub mod RowLemmas
-pub mod Shown
-pub mod Tiles

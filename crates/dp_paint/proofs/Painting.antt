@@ -2,10 +2,9 @@
 use Rattle.std.proofs.Common.{◌≡◌, ℕ, ◌+◌, ◌*◌, ◌/◌, ◌%◌, ◌<◌, ◌≤◌, arith}
 use Rattle.std.proofs.Common.{ap, sym, ◌∙◌, refl, true, false, ⊎_elim}
 use Rattle.std.specs.Prelude.{pos, ℤ}
-use Rattle.std.proofs.lemmas.Bool.{lt-ltb, cond-true, cond-false, cases_Bool, false≢true}
-use Rattle.std.proofs.lemmas.Bool.{false_from_ne_true}
+use Rattle.std.proofs.lemmas.Bool.{lt-ltb, cases_Bool, false≢true, false_from_ne_true}
 use Rattle.dp_blend.specs.Color.{Channels}
-use Rattle.dp_blend.specs.Canvas.{canvas_of, pixel_at}
+use Rattle.dp_blend.specs.Canvas.{canvas_of}
 use Rattle.dp_blend.proofs.Canvas.{canvas_of-same, pixel_at-canvas_of}
 use Rattle.dp_msg_draw.specs.declared.draw.Draw.{Draw}
 use Rattle.dp_msg_draw.specs.declared.draw.Draw.TheVariants as draws
@@ -13,8 +12,9 @@ use Rattle.dp_pixels.specs.Commands.{drawn, pixel_drawn, pixel_of, pixels_after}
 use Rattle.dp_pixels.specs.Feet.{foot, is_in_foot, reach, squares_of_foot}
 use Rattle.dp_tile.specs.declared.area.CellArea.{CellArea}
 use Rattle.dp_tile.specs.Tiles.{TileGrid, cell_at, grid_pixel, grid_pixels}
-use Rattle.dp_tile.specs.Areas.{IsPaintedOn, Painted, is_in_cells}
-use Rattle.dp_paint.specs.Painting.{IsGridOf, IsPainting}
+use Rattle.dp_tile.specs.Areas.{IsPaintedOn, is_in_cells}
+use Rattle.dp_shift.specs.Grids.{IsGridOf}
+use Rattle.dp_paint.specs.Painting.{IsPainting}
 use Rattle.dp_ops.specs.Drawn.{tile_drawn}
 use Rattle.dp_ops.proofs.Drawn.{pixel-tile_drawn}
 
@@ -74,28 +74,6 @@ module _ (width height : ℕ) (op : Draw) (is : IsPainting op) (law : StaysOutsi
       (is_in_foot (foot op) (pos x) (pos y))
       (λ f. false≢true (sym t ∙ covers x y in_x in_y f))))
       (cases_Bool (is_in_cells area (x / 64) (y / 64))))
-
--- the pixel at a place of a grid of which an area was painted
-module _ (area : CellArea) (painted : Painted) (old new : TileGrid)
-    (is : IsPaintedOn area painted old new) (x y : ℕ) (in_cols : x / 64 < old.cols)
-    (in_rows : y / 64 < old.rows) where
-  pub pixel_in : is_in_cells area (x / 64) (y / 64) ≡ true → grid_pixel new x y
-      ≡ pixel_at 64 (painted (x / 64) (y / 64) (cell_at old (x / 64) (y / 64))) (x % 64) (y % 64)
-  pixel_in inside =
-      ap (λ pixels. pixel_at 64 pixels (x % 64) (y % 64))
-      (is.cells (x / 64) (y / 64) in_cols in_rows
-      ∙ cond-true (is_in_cells area (x / 64) (y / 64))
-      (painted (x / 64) (y / 64) (cell_at old (x / 64) (y / 64))) (cell_at old (x / 64) (y / 64))
-      inside)
-
-  pub pixel_off : is_in_cells area (x / 64) (y / 64) ≡ false
-      → grid_pixel new x y ≡ grid_pixel old x y
-  pixel_off outside =
-      ap (λ pixels. pixel_at 64 pixels (x % 64) (y % 64))
-      (is.cells (x / 64) (y / 64) in_cols in_rows
-      ∙ cond-false (is_in_cells area (x / 64) (y / 64))
-      (painted (x / 64) (y / 64) (cell_at old (x / 64) (y / 64))) (cell_at old (x / 64) (y / 64))
-      outside)
 
 -- a grid of which an area was painted
 pub grid_painted : (width height : ℕ) (op : Draw) → IsPainting op → StaysOutside

@@ -1,5 +1,3 @@
 pub mod Painting
 pub mod Layers
 pub mod Jobs
-pub mod Reading
-pub mod Movements

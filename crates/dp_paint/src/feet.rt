@@ -1,16 +1,14 @@
 //! The tiles that a command may change.
 
-ghost use Rattle.std.specs.Prelude.{◌≡◌, ◌-◌, ◌*◌, ◌/◌, ◌<◌, ◌≤◌, ℕ, pos};
-ghost use Rattle.std.specs.Prelude.{true, Some, max};
-ghost use Rattle.dp_pixels.specs.declared.feet.Footprint.TheVariants.{Two};
+ghost use Rattle.std.specs.Prelude.{◌≡◌, ◌-◌, ◌*◌, ◌/◌, ◌<◌, ◌≤◌, ℕ, pos, true, Some, max};
 ghost use Rattle.dp_pixels.specs.Feet.{foot, is_in_foot, squares_of_foot};
 ghost use Rattle.dp_tile.specs.Areas.{is_in_cells};
-ghost use Rattle.dp_paint.specs.Painting.{IsNear, IsOnGreatest, IsPainting, foot_area};
-ghost use Rattle.dp_paint.specs.Reading.{ChangesPixels, IsMove};
+ghost use Rattle.dp_shift.specs.Grids.{IsOnGreatest};
+ghost use Rattle.dp_paint.specs.Painting.{ChangesPixels, IsPainting, foot_area};
 
-use crate::cells::cells_in;
 use dp_msg_draw::Draw;
 use dp_pixels::{Footprint, Rect, foot};
+use dp_shift::{cells_in, move_rects};
 use dp_tile::CellArea;
 
 /// The rectangle of the foot of a command.
@@ -22,21 +20,6 @@ fn foot_rect(command: &Draw) -> Rect
 {
     match foot(command) {
         Footprint::Area { rect, .. } => rect,
-        _ => unreachable!(),
-    }
-}
-
-/// The rectangles of the foot of a MoveRect: the one that it clears, and the one that it moves it
-/// to.
-pub(crate) fn move_rects(command: &Draw) -> (Rect, Rect)
-    requires { IsMove command.now }
-    ensures foot { (layer : ℕ) × (foot command.now ≡ Two layer result.0 result.1) }
-    ensures from { IsOnGreatest result.0 }
-    ensures to { IsOnGreatest result.1 }
-    ensures near { IsNear result.0 }
-{
-    match foot(command) {
-        Footprint::Two { from, to, .. } => (from, to),
         _ => unreachable!(),
     }
 }

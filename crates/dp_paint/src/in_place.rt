@@ -5,8 +5,9 @@ ghost use Rattle.dp_pixels.specs.Commands.{IsDabs, pixels_after};
 ghost use Rattle.dp_pixels.specs.Feet.{foot, is_in_foot, reach};
 ghost use Rattle.dp_tile.specs.Areas.{IsPaintedOn, is_in_cells};
 ghost use Rattle.dp_tile.specs.Tiles.{grid_pixels};
-ghost use Rattle.dp_paint.specs.Painting.{IsGridOf, IsPainting};
-ghost use Rattle.dp_paint.specs.Reading.{IsAreaOf, cells_of};
+ghost use Rattle.dp_shift.specs.Grids.{IsGridOf};
+ghost use Rattle.dp_paint.specs.Painting.{IsPainting};
+ghost use Rattle.dp_shift.specs.Reading.{IsAreaOf, cells_of};
 ghost use Rattle.dp_ops.specs.Lists.{IsChangedOn, IsFinished, waiting_tile};
 
 use crate::feet::cells_of;

@@ -10,21 +10,19 @@ ghost use Rattle.dp_pixels.specs.Resizes.{pixels_resized};
 ghost use Rattle.dp_pixels.specs.Tiles.{ShowsTile};
 ghost use Rattle.dp_tile.specs.Areas.{is_in_cells};
 ghost use Rattle.dp_tile.specs.Tiles.{grid_pixels};
-ghost use Rattle.dp_paint.specs.Painting.{IsGridOf, IsPainting};
+ghost use Rattle.dp_shift.specs.Grids.{IsGridOf};
+ghost use Rattle.dp_paint.specs.Painting.{ChangesPixels, IsPainting};
 ghost use Rattle.dp_ops.specs.Ops.{MayWait};
-ghost use Rattle.dp_paint.specs.Reading.{ChangesPixels};
 
-use crate::blank::blank_grid;
-use crate::feet::foot_cells;
+use crate::feet::{cells_of, foot_cells};
 use crate::in_place::{paint_in_place, paint_lists, settle};
-use crate::movement::move_in_place;
-use crate::resize::resized_grid;
 use crate::waits::{colors_of, may_wait};
 use crate::workers::{Workers, settle_all};
 use dp_blend::Pixel;
 use dp_msg_draw::Draw;
 use dp_ops::{Numbered, Sheet, TileLists, file, show_ops};
 use dp_pixels::{Resize, pixels_stay_outside_the_foot, the_foot_tells_all};
+use dp_shift::{blank_grid, move_in_place, resized_grid};
 use dp_steps::Steps;
 use dp_tile::{CellArea, Grid};
 use dp_wire::Gate;
@@ -71,7 +69,7 @@ pub struct DeferredGrid {
 
 impl Model for DeferredGrid {
     ghost use Rattle.std.specs.Prelude.{◌≡◌};
-    ghost use Rattle.dp_paint.specs.Painting.{IsGridOf};
+    ghost use Rattle.dp_shift.specs.Grids.{IsGridOf};
     ghost use Rattle.dp_ops.specs.Lists.{AllCount};
     ghost use Rattle.dp_paint.specs.Layers.{LayerOf, NamesThese, layer_pixels};
 
@@ -194,34 +192,19 @@ impl DeferredGrid {
         ensures few_tiles { tiles.new ≤ tiles.old + (4096 + reach command.now) }
     {
         if let Draw::FillRect { .. } = command {
-            // Most commands are fills. It is known from here on then that it is one.
-            return self.draw_any(command, tiles);
+            // Most commands are small fills. From here on it is known that it is a fill.
+            self.grid.known();
+            let area = cells_of(command, self.grid.cols(), self.grid.rows());
+            if may_wait(command, area) {
+                return self.wait(command, area, tiles);
+            }
         }
         self.draw_other(command, tiles)
     }
 
-    /// Draws a command that is no fill.
+    /// Draws a command. It is made for those that are no small fills.
     #[inline(never)]
     fn draw_other<T: Ledger>(
-        &mut self,
-        command: &Draw,
-        tiles: &mut Steps<T>,
-    ) -> Result<(), AllocError>
-        requires { ChangesPixels command.now }
-        ensures ok { OnOk result (self.new ≡ record self.old {
-          pixels = pixels_after self.old.width
-              self.old.height command.now self.old.pixels;
-        }) }
-        ensures err { OnErr result (self.new ≡ self.old) }
-        ensures tiles_rise { tiles.old ≤ tiles.new }
-        ensures few_tiles { tiles.new ≤ tiles.old + (4096 + reach command.now) }
-    {
-        self.draw_any(command, tiles)
-    }
-
-    /// Draws a command.
-    #[inline(always)]
-    fn draw_any<T: Ledger>(
         &mut self,
         command: &Draw,
         tiles: &mut Steps<T>,

@@ -1,12 +1,12 @@
 //! Commands on the pixels of layers that are grids of tiles.
 
 ghost use Rattle.std.specs.Prelude.{◌≡◌, ◌<◌, length};
-ghost use Rattle.dp_paint.specs.Painting.{IsPainting};
-ghost use Rattle.dp_paint.specs.Reading.{ChangesPixels};
+ghost use Rattle.dp_paint.specs.Painting.{ChangesPixels, IsPainting};
 
 use dp_blend::{Pixel, of_argb};
 use dp_msg_draw::{Dab, Dabs, Draw};
-use dp_paint::{DeferredGrid, blank_grid, paint_in_place};
+use dp_paint::{DeferredGrid, paint_in_place};
+use dp_shift::blank_grid;
 use dp_steps::Steps;
 use dp_tile::Grid;
 use std::alloc::Global;

@@ -4,7 +4,7 @@ use Rattle.std.specs.List.{sum_by}
 use Rattle.std.proofs.lemmas.List.Sums.{sum_by-append, sum_by-take-le}
 use Rattle.dp_pixels.specs.Feet.{reach}
 use Rattle.dp_tile.specs.Tiles.{grid_pixels}
-use Rattle.dp_paint.specs.Painting.{IsGridOf}
+use Rattle.dp_shift.specs.Grids.{IsGridOf}
 use Rattle.dp_paint.proofs.Bands.{part_more, take_part}
 use Rattle.dp_paint.proofs.workers.paint.Goals as goal
 

@@ -2,7 +2,8 @@ use Rattle.std.proofs.Common.{◌≡◌, ◌+◌, ◌-◌, ◌≤◌, length, ta
 use Rattle.std.specs.List.{sum_by}
 use Rattle.dp_pixels.specs.Feet.{reach}
 use Rattle.dp_tile.specs.Tiles.{grid_pixels}
-use Rattle.dp_paint.specs.Painting.{IsGridOf, pixels_after_all}
+use Rattle.dp_shift.specs.Grids.{IsGridOf}
+use Rattle.dp_paint.specs.Painting.{pixels_after_all}
 use Rattle.dp_paint.proofs.workers.paint.Given as goal
 
 -- the commands so far are painted

@@ -2,7 +2,7 @@ use Rattle.std.proofs.Common.{◌≡◌, ◌+◌, ◌*◌, ◌<◌, ◌≤◌, �
 use Rattle.dp_ops.specs.Lists.{AllCount, listed_at}
 use Rattle.dp_paint.specs.Layers.{layer_pixels}
 use Rattle.dp_paint.specs.Jobs.{tiles_waiting}
-use Rattle.dp_paint.specs.Painting.{IsGridOf}
+use Rattle.dp_shift.specs.Grids.{IsGridOf}
 use Rattle.dp_paint.proofs.workers.settle_all.Given as goal
 
 -- what waited on the bands before this one is painted, and what waits on the others is the same

@@ -6,7 +6,7 @@ use Rattle.dp_tile.specs.Areas.{IsPaintedOn}
 use Rattle.dp_paint.specs.Layers.{LayerOf}
 use Rattle.dp_ops.specs.Lists.{Waiting, waiting_tile}
 use Rattle.dp_ops.specs.declared.lists.Finish.TheVariants.{Clear}
-use Rattle.dp_paint.specs.Painting.{IsGridOf}
+use Rattle.dp_shift.specs.Grids.{IsGridOf}
 use Rattle.dp_paint.proofs.Layers.{always_on_err, drawn_under, either, layer_after, painted_grid}
 use Rattle.dp_paint.proofs.Layers.{same_layer, settled}
 use Rattle.dp_ops.proofs.Waits.{all_counts}

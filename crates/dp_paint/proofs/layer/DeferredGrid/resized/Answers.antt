@@ -3,7 +3,7 @@ use Rattle.dp_msg_draw.specs.declared.draw.Draw.{Draw}
 use Rattle.dp_tile.specs.declared.area.CellArea.{CellArea}
 use Rattle.dp_tile.specs.Areas.{IsPaintedOn}
 use Rattle.dp_ops.specs.Lists.{Lists, waiting_tile}
-use Rattle.dp_paint.specs.Painting.{IsGridOf}
+use Rattle.dp_shift.specs.Grids.{IsGridOf}
 use Rattle.dp_paint.proofs.Layers.{all_painted, no_lists, resized_layer}
 use Rattle.dp_paint.proofs.Named.{other_layer}
 use Rattle.dp_paint.proofs.layer.DeferredGrid.resized.Goals as goal
