@@ -6,7 +6,7 @@ set -eu
 top=$(cd "$(dirname "$0")/.." && pwd)
 work=$(mktemp -d)
 trap 'rm -rf "$work"' EXIT
-crates="dp_blend dp_fields dp_msg_draw dp_ops dp_paint dp_pixels dp_steps dp_tile"
+crates="dp_blend dp_fields dp_msg_draw dp_ops dp_paint dp_pixels dp_shift dp_steps dp_tile"
 mkdir -p "$work/crates/tiles/src" "$work/crates/tiles/proofs/main"
 for name in $crates; do
   mkdir "$work/crates/$name"

@@ -27,4 +27,3 @@ module _ (area : CellArea) (painted : Painted) (old new : TileGrid)
       ∙ cond-false (is_in_cells area (x / 64) (y / 64))
       (painted (x / 64) (y / 64) (cell_at old (x / 64) (y / 64))) (cell_at old (x / 64) (y / 64))
       outside)
-

@@ -87,4 +87,3 @@ move_within (op.MoveRect own sx sy w h tx ty) move layer from to is =
       near = subst IsNear first (greatest_near source);
     }
 move_within _ move layer from to is = absurd move
-

@@ -323,8 +323,8 @@ fn paint_move<T: Ledger>(
     paint_areas(grid, &moved, cleared, laid, tiles)
 }
 
-/// The rectangles of the foot of a MoveRect: the one that it clears, and the one that it moves it
-/// to.
+/// The rectangles of the foot of a MoveRect: the one that is cleared, and the one that its pixels
+/// move to.
 pub fn move_rects(command: &Draw) -> (Rect, Rect)
     requires { IsMove command.now }
     ensures foot { (layer : ℕ) × (foot command.now ≡ Two layer result.0 result.1) }
