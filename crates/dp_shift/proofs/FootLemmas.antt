@@ -1,5 +1,5 @@
 -- Rectangles on the greatest canvas, and the feet of MoveRect.
-use Rattle.std.proofs.Common.{◌≡◌, ℕ, ◌<◌, ap, subst, sym, arith, ◌≤◌}
+use Rattle.std.proofs.Common.{◌≡◌, ℕ, ◌<◌, ap, subst, sym, arith}
 use Rattle.std.specs.Prelude.{ℤ, pos, ◌≤ℤ◌, ◌^◌, unsigned_abs}
 use Rattle.std.specs.Int.{int_min}
 use Rattle.std.proofs.lemmas.Int.{ints, int_max_is, int_min_is}
