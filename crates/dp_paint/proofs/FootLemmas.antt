@@ -13,6 +13,7 @@ use Rattle.dp_pixels.specs.Feet.{squares_of, squares_of_foot}
 use Rattle.dp_pixels.specs.Dabs.{placed_dabs}
 use Rattle.dp_pixels.specs.Rectangles.{is_in, rect_at}
 use Rattle.dp_shift.specs.Grids.{IsOnGreatest}
+use Rattle.dp_shift.proofs.FootLemmas.{greatest_within}
 use Rattle.dp_paint.specs.Painting.{foot_area}
 use Rattle.dp_tile.specs.declared.area.CellArea.{CellArea}
 use Rattle.dp_tile.specs.Areas.{is_in_cells}

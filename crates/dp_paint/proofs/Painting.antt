@@ -14,6 +14,7 @@ use Rattle.dp_tile.specs.declared.area.CellArea.{CellArea}
 use Rattle.dp_tile.specs.Tiles.{TileGrid, cell_at, grid_pixel, grid_pixels}
 use Rattle.dp_tile.specs.Areas.{IsPaintedOn, is_in_cells}
 use Rattle.dp_shift.specs.Grids.{IsGridOf}
+use Rattle.dp_shift.proofs.AreaLemmas.{pixel_in, pixel_off}
 use Rattle.dp_paint.specs.Painting.{IsPainting}
 use Rattle.dp_ops.specs.Drawn.{tile_drawn}
 use Rattle.dp_ops.proofs.Drawn.{pixel-tile_drawn}

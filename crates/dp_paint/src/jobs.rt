@@ -221,7 +221,10 @@ pub(crate) fn make_jobs<'a, T: Ledger>(
         jobs: Vec::new(grid.alloc()),
     };
     for number in first..first + GROUP {
-        make_next(grid, painter, number, &mut work, tiles)?;
+        if let Err(refused) = make_next(grid, painter, number, &mut work, tiles) {
+            drop(work);
+            return Err(refused);
+        }
     }
     Ok(work)
 }

@@ -1,7 +1,7 @@
 //! The pixels of a layer, with operations that wait until its tiles are painted otherwise or read.
 
 ghost use Rattle.std.specs.Prelude.{◌≡◌, ◌+◌, ◌*◌, ◌/◌, ◌<◌, ◌≤◌, [], ℕ, length, Some, true, pos};
-ghost use Rattle.std.specs.Prelude.{IfOk, IfSome, OnOk, OnErr};
+ghost use Rattle.std.specs.Prelude.{◌∷◌, ◌++◌, IfOk, IfSome, OnOk, OnErr};
 ghost use Rattle.dp_blend.specs.Color.{clear};
 ghost use Rattle.dp_blend.specs.Canvas.{canvas_of, part_of_row, pixel_at};
 ghost use Rattle.dp_pixels.specs.Commands.{pixels_after};
@@ -126,13 +126,25 @@ fn draw_in_place<T: Ledger>(
     }
 }
 
+/// Adds an equal command at the end of a list.
+fn push_copy(commands: &mut Vec<Draw>, command: &Draw) -> Result<(), AllocError>
+    ensures added { OnOk result (commands.new.items ≡ commands.old.items ++ command.now ∷ []) }
+    ensures same { OnErr result (commands.new.items ≡ commands.old.items) }
+{
+    commands.push(command.copy()?)?;
+    Ok(())
+}
+
 /// Equal commands.
 fn copied(commands: &[Draw], alloc: Global) -> Result<Vec<Draw>, AllocError>
     ensures { IfOk result (λ copy. copy.items ≡ commands.now) }
 {
     let mut copy = Vec::with_capacity(alloc, commands.len())?;
     for command in commands {
-        copy.push(command.copy()?)?;
+        if let Err(refused) = push_copy(&mut copy, command) {
+            drop(copy);
+            return Err(refused);
+        }
     }
     Ok(copy)
 }
@@ -298,7 +310,7 @@ impl DeferredGrid {
             // This is never so: before `IMAGES` of them wait, all are painted.
             return Err(AllocError);
         }
-        self.images.push(command.copy()?)?;
+        push_copy(&mut self.images, command)?;
         self.colors = self.colors.saturating_add(colors).saturating_add(IMAGE);
         let source = Numbered {
             width: self.width,

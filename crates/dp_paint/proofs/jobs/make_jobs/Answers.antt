@@ -14,13 +14,13 @@ pub loop-number-preserved : goal.loop-number-preserved
 loop-number-preserved g c =
     let inv = c.loop-number.invariant in
     let lists = c.args.painter.lists.now in record {
-      made = c.in_ok-make_next.ensures.made c.args.first (omega (arith, c.loop-number.auto.number))
+      made = c.in_default.ensures.made c.args.first (omega (arith, c.loop-number.auto.number))
           inv.made;
-      rise = omega (arith, inv.rise, c.in_ok-make_next.ensures.tiles_rise);
+      rise = omega (arith, inv.rise, c.in_default.ensures.tiles_rise);
       few = omega (
         arith,
         inv.few,
-        c.in_ok-make_next.ensures.few_tiles,
+        c.in_default.ensures.few_tiles,
         waiting_next lists c.loop-number.number,
       );
     }
@@ -29,8 +29,8 @@ pub returns-in_err-share-clause-few_tiles : goal.returns-in_err-share-clause-few
 returns-in_err-share-clause-few_tiles g c =
     omega (arith, waiting_more c.args.painter.lists.now c.args.first 512)
 
-pub returns-in_err-make_next-clause-few_tiles : goal.returns-in_err-make_next-clause-few_tiles
-returns-in_err-make_next-clause-few_tiles g c =
+pub returns-in-Err-clause-few_tiles : goal.returns-in-Err-clause-few_tiles
+returns-in-Err-clause-few_tiles g c =
     let lists = c.args.painter.lists.now in
     let number = c.loop-number.number in
     omega (

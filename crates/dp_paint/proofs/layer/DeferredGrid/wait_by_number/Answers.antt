@@ -10,12 +10,11 @@ pub invariant_of-self-2 : goal.invariant_of-self-2
 invariant_of-self-2 g c =
     let inside = c.self.inside in
     let before = inside.images.items in
-    let all = c.push.new.self.items in
+    let all = c.push_copy.new.commands.items in
     let op = c.args.command.now in
     let is_of = c.self.invariant.0 in
     let names = c.self.invariant.3 in
-    let is_all : all ≡ before ++ op ∷ [] = c.in_ok-push.ensures.items
-    ∙ ap (λ (d : Draw). before ++ d ∷ []) c.in_ok-copy.ensures.same in
+    let is_all : all ≡ before ++ op ∷ [] = c.in_ok-push_copy.ensures.added in
     let is_number : c.len-number.result ≡ length before =
     omega (arith, inside.images.ok, c.len-number.ensures) in
     let old = inside.lists in
@@ -39,14 +38,13 @@ pub returns-clause-ok : goal.returns-clause-ok
 returns-clause-ok g c =
     let inside = c.self.inside in
     let before = inside.images.items in
-    let all = c.push.new.self.items in
+    let all = c.push_copy.new.commands.items in
     let op = c.args.command.now in
     let view = c.self.view_is ∙ c.in_ok-make_room.ensures.same in
     let wide = ap (λ (l : LayerOf). l.width) view in
     let high = ap (λ (l : LayerOf). l.height) view in
     let is_of = c.self.invariant.0 in
-    let is_all : all ≡ before ++ op ∷ [] = c.in_ok-push.ensures.items
-    ∙ ap (λ (d : Draw). before ++ d ∷ []) c.in_ok-copy.ensures.same in
+    let is_all : all ≡ before ++ op ∷ [] = c.in_ok-push_copy.ensures.added in
     let is_number : c.len-number.result ≡ length before =
     omega (arith, inside.images.ok, c.len-number.ensures) in
     on_ok_weaker c.file.result
@@ -62,11 +60,10 @@ pub returns-clause-err : goal.returns-clause-err
 returns-clause-err g c =
     let inside = c.self.inside in
     let before = inside.images.items in
-    let all = c.push.new.self.items in
+    let all = c.push_copy.new.commands.items in
     let op = c.args.command.now in
     let is_of = c.self.invariant.0 in
-    let is_all : all ≡ before ++ op ∷ [] = c.in_ok-push.ensures.items
-    ∙ ap (λ (d : Draw). before ++ d ∷ []) c.in_ok-copy.ensures.same in
+    let is_all : all ≡ before ++ op ∷ [] = c.in_ok-push_copy.ensures.added in
     on_err_weaker c.file.result
     (λ same.
     kept_layer c.args.self.now inside.width inside.height before all op inside.lists
