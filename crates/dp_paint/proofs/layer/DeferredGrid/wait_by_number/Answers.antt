@@ -1,6 +1,5 @@
 use Rattle.std.proofs.Common.{◌≡◌, ◌∙◌, ◌++◌, ◌∷◌, [], ap, arith, length, sym}
 use Rattle.std.proofs.lemmas.Result.{on_err_weaker, on_ok_weaker}
-use Rattle.dp_msg_draw.specs.declared.draw.Draw.{Draw}
 use Rattle.dp_paint.specs.Layers.{LayerOf, NamesThese}
 use Rattle.dp_paint.proofs.Layers.{either}
 use Rattle.dp_paint.proofs.Named.{kept_layer, kept_names, pushed_layer, pushed_names}
