@@ -3,7 +3,7 @@
 ghost use Rattle.std.specs.Prelude.{◌≡◌, ◌+◌, ◌-◌, ◌*◌, ◌/◌, ◌<◌, ◌≤◌, ◌≤ℤ◌, ◌-ℤ◌, ℕ, ℤ, pos};
 ghost use Rattle.std.specs.Prelude.{true, length, unsigned_abs, IfSome, IfNone, OnOk, OnErr, Some};
 ghost use Rattle.std.specs.Prelude.{None, ◌^◌, if◌then◌else◌};
-ghost use Rattle.dp_blend.specs.Blending.{blend};
+ghost use Rattle.dp_blend.specs.Blending.{blend, mode_numbered};
 ghost use Rattle.dp_blend.specs.Color.{Channels, of_argb, premultiplied};
 ghost use Rattle.dp_pixels.specs.Commands.{IsDabs, pixel_after};
 ghost use Rattle.dp_pixels.specs.Strokes.{brush_of};
@@ -266,6 +266,39 @@ impl TileSource for Numbered<'_> {
     }
 }
 
+/// The fill of a command, if it is one and a mode has its number.
+#[inline(always)]
+fn fill_of(command: &Draw) -> Option<RectFill>
+    ensures some { IfSome result (λ fill. (wide high : ℕ) (x y : ℤ) (old : Channels)
+        → filed_at wide high command.now x y old
+        ≡ if is_in (rect_at (pos fill.x) (pos fill.y) fill.w fill.h) x y
+        then blend fill.mode (of_argb fill.color) old else old) }
+    ensures none { IfNone result ((layer mode x y w h color : ℕ)
+        → command.now ≡ Draw.FillRect layer mode x y w h color → mode_numbered mode ≡ None) }
+{
+    let Draw::FillRect {
+        mode,
+        x,
+        y,
+        w,
+        h,
+        color,
+        ..
+    } = command
+    else {
+        return None;
+    };
+    let mode = Mode::from_u8(*mode)?;
+    Some(RectFill {
+        x: *x,
+        y: *y,
+        w: *w,
+        h: *h,
+        mode,
+        color: *color,
+    })
+}
+
 /// Adds a command on the tiles of an area.
 #[inline(always)]
 fn add_command(
@@ -291,26 +324,8 @@ fn add_command(
         lists.old lists.new) }
 {
     match source.command {
-        Draw::FillRect {
-            mode,
-            x,
-            y,
-            w,
-            h,
-            color,
-            ..
-        } => match Mode::from_u8(*mode) {
-            Some(mode) => {
-                let fill = RectFill {
-                    x: *x,
-                    y: *y,
-                    w: *w,
-                    h: *h,
-                    mode,
-                    color: *color,
-                };
-                lists.add(&fill, area)
-            }
+        Draw::FillRect { .. } => match fill_of(source.command) {
+            Some(fill) => lists.add(&fill, area),
             None => Ok(()),
         },
         Draw::DabsRound { .. } | Draw::DabsSquare { .. } => {
@@ -318,37 +333,6 @@ fn add_command(
         }
         _ => lists.add(source, area),
     }
-}
-
-/// The fill of a command, if it is one and a mode has its number.
-#[inline(always)]
-fn fill_of(command: &Draw) -> Option<RectFill>
-    ensures { IfSome result (λ fill. (wide high : ℕ) (x y : ℤ) (old : Channels)
-        → filed_at wide high command.now x y old
-        ≡ if is_in (rect_at (pos fill.x) (pos fill.y) fill.w fill.h) x y
-        then blend fill.mode (of_argb fill.color) old else old) }
-{
-    let Draw::FillRect {
-        mode,
-        x,
-        y,
-        w,
-        h,
-        color,
-        ..
-    } = command
-    else {
-        return None;
-    };
-    let mode = Mode::from_u8(*mode)?;
-    Some(RectFill {
-        x: *x,
-        y: *y,
-        w: *w,
-        h: *h,
-        mode,
-        color: *color,
-    })
 }
 
 /// Adds a command on the tiles of an area, makes their lists before, and finishes them.

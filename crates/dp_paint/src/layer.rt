@@ -464,16 +464,22 @@ impl DeferredGrid {
             height: self.height,
             commands: &self.images,
         };
-        paint_lists(&mut grid, on, &self.lists, all, tiles)?;
-        let resized = resized_grid(&grid, change, tiles)?;
+        if let Err(refused) = paint_lists(&mut grid, on, &self.lists, all, tiles) {
+            drop(grid);
+            return Err(refused);
+        }
+        let resized = resized_grid(&grid, change, tiles);
+        drop(grid);
+        let resized = resized?;
+        let alloc = resized.alloc();
         let most = room_on(&resized, self.more);
         Ok(DeferredGrid {
             width: change.new_width as u32,
             height: change.new_height as u32,
             grid: resized,
-            images: Vec::new(grid.alloc()),
+            images: Vec::new(alloc),
             colors: 0,
-            lists: TileLists::new(grid.alloc(), 0),
+            lists: TileLists::new(alloc, 0),
             more: self.more,
             most,
         })

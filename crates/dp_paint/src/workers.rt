@@ -235,7 +235,13 @@ pub fn paint<R: Threads + Sync, G: Gate, T: Ledger>(
             height,
             commands: &ops[done..next],
         };
-        painted = paint_part(rt, &painted, on, workers, tiles)?;
+        match paint_part(rt, &painted, on, workers, tiles) {
+            Ok(after) => painted = after,
+            Err(refused) => {
+                drop(painted);
+                return Err(refused);
+            }
+        }
         done = next;
     }
     Ok(painted)

@@ -21,5 +21,5 @@ returns-in-Some-clause-filed c =
     (c.is_one_cell.ensures.right c.if-is_one_cell.true)
     (c.is_one_cell.ensures.bottom c.if-is_one_cell.true)
     (filed_drawn source.width source.height source.number op)
-    (c.in-Some.ensures source.width source.height) puts)
+    (c.in-Some.ensures.some source.width source.height) puts)
     c.put.ensures.put

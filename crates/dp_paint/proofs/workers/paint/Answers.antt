@@ -25,7 +25,7 @@ loop-done-preserved g c =
     let next = done + c.min.result in
     let part = take (next - done) (drop done all) in
     let are = take_part all done next (omega arith) inv.inside in
-    let painted = c.in_ok-painted-2.ensures in
+    let painted = c.in-Ok.ensures in
     record {
       inside = omega arith;
       grid = painted.grid;
@@ -41,8 +41,8 @@ loop-done-preserved g c =
       );
     }
 
-pub returns-in_err-painted-2-clause-few_tiles : goal.returns-in_err-painted-2-clause-few_tiles
-returns-in_err-painted-2-clause-few_tiles g c =
+pub returns-in-Err-clause-few_tiles : goal.returns-in-Err-clause-few_tiles
+returns-in-Err-clause-few_tiles g c =
     let all = c.args.ops.now in
     let done = c.loop-done.done in
     let next = done + c.min.result in

@@ -29,7 +29,7 @@ returns-clause-resized g c =
     c.cols.ensures refl c.rows.ensures
     (subst (λ (cs : List Draw). IsPaintedOn area
     (waiting_tile inside.width inside.height cs inside.lists) c.in_ok-grid.grid
-    c.paint_lists.new.grid) c.deref.ensures.value c.in_ok-paint_lists.ensures.painted))
+    c.paint_lists.new.grid) c.deref.ensures.value c.in_default.ensures.painted))
     none c.in_ok-resized.ensures.resized)
     (no_lists change.new_width change.new_height left lists new none
     ∙ sym (no_lists change.new_width change.new_height images lists new none))
