@@ -1,6 +1,6 @@
 -- Events of a journal stay as it grows.
-use Rattle.std.proofs.Common.{◌≡◌, ℕ, zero, suc, true, is_some, List, [], ◌∷◌, ◌++◌}
-use Rattle.std.proofs.Common.{length, Option, None, Some, refl}
+use Rattle.std.proofs.Common.{◌≡◌, ℕ, zero, suc, true, is_some, List, [], ◌∷◌, ◌++◌, length, Option}
+use Rattle.std.proofs.Common.{None, Some, refl}
 use Rattle.std.specs.List.{slice_get}
 use Rattle.dp_epochs.specs.declared.event.Event.{Event}
 use Rattle.dp_history.specs.Items.{IsSay, part_of, join_of}

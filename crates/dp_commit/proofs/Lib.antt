@@ -5,3 +5,7 @@ pub mod Holders
 pub mod MarksLemmas
 pub mod QuietLemmas
 pub mod OpenLemmas
+pub mod StateLemmas
+pub mod ResetLemmas
+pub mod CauseLemmas
+pub mod ReadLemmas

@@ -20,7 +20,7 @@ use Rattle.dp_epochs.specs.State.{State, Stream, first_stream, place_in, with_pa
 use Rattle.dp_epochs.specs.State.{reset_byte_limit, stream_without}
 use Rattle.dp_history.specs.Items.{part_of, IsPart, commands_in}
 use Rattle.dp_commit.specs.Sending.{stream_in, IsResetIn, is_sender, owner_after, next_place}
-use Rattle.dp_commit.specs.Sending.{parts_after, bytes_after}
+use Rattle.dp_commit.specs.Sending.{parts_after, bytes_after, PartSize}
 use Rattle.dp_commit.proofs.Journals.{stays_there, part-there, last_there}
 use Rattle.dp_messages.specs.declared.message.Msg.TheVariants as msg
 use Rattle.dp_epochs.specs.declared.event.Event.TheVariants as event
@@ -75,11 +75,6 @@ grown-in : (owner place : Option ℕ) (commands : List Draw) (command : Draw)
     (option_map (λ conn. record { owner = conn; commands = commands; place = place }) owner)
 grown-in None place commands command = refl
 grown-in (Some conn) place commands command = refl
-
--- the size is that of the event's payload, if it says a part
-abbrev pub PartSize : Event → ℕ → Type 0
-PartSize e size = (conn : ℕ) (command : Draw) → e ≡ event.Say conn (msg.Part command)
-    → size ≡ part_bytes command
 
 module _ (sent : Option Stream) (journal : List Event) (owner place : Option ℕ) (parts : List ℕ)
     (bytes : ℕ) (h : IsResetIn sent journal owner place parts bytes) (e : Event) where

@@ -3,11 +3,14 @@ use Rattle.std.specs.Prelude.{◌≡◌, ℕ, ◌+◌, ◌==◌, Bool, false, []
 use Rattle.std.specs.Prelude.{List, ◌∷◌, ◌++◌, length, ◌≤◌, All}
 use Rattle.std.specs.List.{sum_by}
 use Rattle.std.specs.Option.{option_map}
+use Rattle.dp_msg_draw.specs.declared.draw.Draw.{Draw}
+use Rattle.dp_messages.specs.declared.message.Msg.TheVariants as msg
 use Rattle.dp_acl.specs.Opening.{part_limit}
 use Rattle.dp_epochs.specs.declared.effect.Effect.{Effect}
 use Rattle.dp_epochs.specs.declared.effect.Effect.TheVariants.{Left, Began, Added, Dropped}
 use Rattle.dp_epochs.specs.declared.effect.Effect.TheVariants.{Reopened}
 use Rattle.dp_epochs.specs.declared.event.Event.{Event}
+use Rattle.dp_epochs.specs.declared.event.Event.TheVariants as event
 use Rattle.dp_epochs.specs.Effects.{own_message}
 use Rattle.dp_epochs.specs.State.{place_in, Stream, part_bytes, reset_byte_limit}
 use Rattle.dp_history.specs.Items.{IsPart, commands_in}
@@ -40,6 +43,11 @@ pub record IsResetIn (sent : Option Stream) (journal : List Event) (owner place 
   pub none : owner ≡ None → parts ≡ []
 
 -- ---- after an event
+
+-- the size is that of the event's payload, if it says a part
+abbrev pub PartSize : Event → ℕ → Type 0
+PartSize e size = (conn : ℕ) (command : Draw) → e ≡ event.Say conn (msg.Part command)
+    → size ≡ part_bytes command
 
 -- the connection sends it
 abbrev pub is_sender : ℕ → Option ℕ → Bool

@@ -61,7 +61,7 @@ pub fn next_open(connections: &[Connection], after: u32) -> Option<u32>
 }
 
 /// Whether the connection of the number, which was given out, is flagged.
-pub fn is_flagged(quiet: &[bool], conn: u32) -> bool
+pub(crate) fn is_flagged(quiet: &[bool], conn: u32) -> bool
     requires { 0 < conn }
     ensures { result ≡ mark quiet.now (conn - 1) }
 {
@@ -97,7 +97,7 @@ impl Roster {
 
     /// By the event of this number, adds the connection of the user who joins. Or it changes that
     /// of the one who takes up the epoch or leaves. It takes no memory.
-    pub fn note(&mut self, effect: Effect, here: Place, event: u32)
+    pub(crate) fn note(&mut self, effect: Effect, here: Place, event: u32)
         requires connections { vec_len self.old.connections < vec_capacity self.old.connections }
         requires quiet { vec_len self.old.quiet < vec_capacity self.old.quiet }
         requires there { IsThere self.old.connections.items effect }

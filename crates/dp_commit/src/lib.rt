@@ -3,15 +3,17 @@
 #![tactic(auto)]
 
 mod connections;
+mod keeping;
 mod live;
 mod opening;
+mod pages;
 mod room;
 mod sending;
 mod supply;
 
-pub use connections::{Roster, connection, is_flagged, is_named, next_open, open_connection};
+pub use connections::{Roster, connection, is_named, next_open, open_connection};
+pub use keeping::{Made, keep_beside};
 pub use live::LiveEpoch;
-pub use opening::{add_carried, carry, count_after};
 pub use room::reserve;
 pub use sending::Sending;
 pub use supply::{Supply, make_entries, mark};

@@ -15,10 +15,11 @@ ghost use Rattle.dp_commit.specs.Placed.{unboxed, server_items, IsWithSupply, Ar
 ghost use Rattle.dp_commit.specs.Placed.{epoch_with};
 ghost use Rattle.dp_commit.specs.Room.{SameLive};
 
+use crate::opening::begin_with;
 use crate::supply::Supply;
 use dp_acl::Rights;
 use dp_epochs::{Effect, Event};
-use dp_history::{HistoryFrames, HistoryItem, Opening};
+use dp_history::{HistoryFrames, HistoryItem};
 use dp_messages::Entry;
 use std::alloc::{AllocError, Global};
 
@@ -163,8 +164,7 @@ impl LiveEpoch {
             → AreMadeOf live.frames history) }
         ensures stands { IfOk result (λ live. StandsFor live.rights (first ∷ [])) }
     {
-        let mut opening = Opening::new(alloc)?;
-        opening.add(first)?;
+        let opening = begin_with(alloc, first)?;
         Ok(LiveEpoch {
             number: 0,
             history: opening.live,
@@ -199,7 +199,7 @@ impl LiveEpoch {
     /// Keeps the event of this number of the journal, with what was made ahead, and gives the event
     /// back. If the next epoch opens, it keeps the frames of the entries from a place on. It takes
     /// no memory.
-    pub fn keep(
+    pub(crate) fn keep(
         &mut self,
         journal: &[Event],
         event: Event,

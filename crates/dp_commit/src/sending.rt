@@ -74,7 +74,7 @@ impl Sending {
 
     /// From where on a history, which ends at `end`, is kept by the reset. The reset names the
     /// place.
-    pub fn start(&self, end: usize) -> usize
+    pub(crate) fn start(&self, end: usize) -> usize
         ensures { result ≡ start_of self.now.owner self.now.place end }
     {
         match self.owner {
@@ -100,7 +100,7 @@ impl Sending {
 
     /// Changes the reset by the event of this number, whose payload has this size. It takes no
     /// memory.
-    pub fn note(&mut self, event: &Event, effect: Effect, n: u32, size: u64)
+    pub(crate) fn note(&mut self, event: &Event, effect: Effect, n: u32, size: u64)
         requires parts { vec_len self.old.parts < vec_capacity self.old.parts }
         requires within { self.old.part_bytes ≤ 2 ^ 28 }
         requires size { size ≤ 2 ^ 30 }

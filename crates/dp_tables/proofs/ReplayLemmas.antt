@@ -2,13 +2,12 @@
 use Rattle.std.proofs.Common.{◌≡◌, ℕ, ◌+◌, ◌&&◌, nat_lt, nat_le, true, false, List, [], ◌∷◌, Option}
 use Rattle.std.proofs.Common.{None, Some, MatchOption, ◌++◌, length, refl, sym, ap, subst, ◌∙◌}
 use Rattle.dp_keeper.specs.declared.row.Row.{Row}
-use Rattle.dp_epochs.specs.declared.effect.Effect.{Effect}
 use Rattle.dp_epochs.specs.declared.event.Event.{Event}
 use Rattle.dp_epochs.specs.Effects.{IsEffect}
 use Rattle.dp_epochs.specs.Rows.{row_of, row_bytes, event_limit, byte_limit, has_room}
 use Rattle.dp_epochs.specs.Spelled.{RowSpells}
 use Rattle.dp_epochs.specs.Resumed.{MayStand, MayNotStand}
-use Rattle.dp_commit.specs.declared.supply.Supply.{Supply}
+use Rattle.dp_commit.specs.declared.keeping.Made.{Made}
 use Rattle.dp_commit.specs.Placed.{IsSupply}
 use Rattle.dp_tables.specs.SessionLog.{SessionLog, state_in}
 use Rattle.dp_tables.specs.Ready.{MayKeep}
@@ -42,16 +41,17 @@ no-room one journal row n is none e may =
     cc
 
 -- what is made of the event of a row, once memory was made ready
-pub row-made : OneLength → (old l : SessionLog) (row : Row) (e : Event) (effect : Effect)
-    (supply : Supply) (n : ℕ) → l ≡ record old { room = l.room } → n ≡ length row.bytes
-    → MayStand old.journal row e → IsEffect (state_in old) e effect
-    → IsSupply old.journal (state_in old) e effect supply → MayKeep l e effect supply n
-row-made one old l row e effect supply n same is may cause made =
-    subst (λ x. MayKeep x e effect supply n) (sym same) (record {
-      does = cause;
-      places = made;
-      long = is ∙ one row.bytes e may.spells;
-      room = may.room;
+pub row-made : OneLength → (old l : SessionLog) (row : Row) (e : Event) (made : Made) (n : ℕ)
+    → l ≡ record old { room = l.room } → n ≡ length row.bytes
+    → MayStand old.journal row e → made.event ≡ e → IsEffect (state_in old) e made.effect
+    → IsSupply old.journal (state_in old) e made.effect made.supply → MayKeep l made n
+row-made one old l row e made n same is may event cause places =
+    subst (λ x. MayKeep x made n) (sym same) (record {
+      does = subst (λ x. IsEffect (state_in old) x made.effect) (sym event) cause;
+      places = subst (λ x. IsSupply old.journal (state_in old) x made.effect made.supply)
+          (sym event) places;
+      long = is ∙ one row.bytes e may.spells ∙ ap (λ x. length (row_of x)) (sym event);
+      room = ap (has_room old.journal) event ∙ may.room;
     })
 
 pub row-kept : (old l new : SessionLog) (row : Row) (e : Event) → l ≡ record old { room = l.room }

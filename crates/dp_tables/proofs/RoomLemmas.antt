@@ -8,7 +8,7 @@ use Rattle.dp_commit.specs.Room.{SameRoster, SameSending, SameLive}
 use Rattle.dp_tables.specs.declared.tables.Tables.TheInside.{Inside}
 use Rattle.dp_tables.specs.Inside.{ledger_of, seen, AreTables}
 use Rattle.dp_tables.specs.SessionLog.{state_in}
-use Rattle.dp_tables.specs.Tables.{AreOf}
+use Rattle.dp_commit.specs.Tables.{AreOf}
 
 -- what they hold stays
 pub tables-roomier : (old new : Inside) → AreTables old

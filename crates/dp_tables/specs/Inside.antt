@@ -6,7 +6,7 @@ use Rattle.dp_history.specs.Made.{AreMadeOf}
 use Rattle.dp_commit.specs.Marks.{quiet_of}
 use Rattle.dp_tables.specs.declared.tables.Tables.TheInside.{Inside}
 use Rattle.dp_tables.specs.SessionLog.{SessionLog, state_in}
-use Rattle.dp_tables.specs.Tables.{Seen, AreOf}
+use Rattle.dp_commit.specs.Tables.{Seen, AreOf, seen_in}
 
 -- memory is ready for any one event
 abbrev pub is_ready : Inside → Bool
@@ -30,19 +30,7 @@ ledger_of t = record {
 
 -- the part that stands for a state
 abbrev pub seen : Inside → Seen
-seen t = record {
-  journal = t.journal.items;
-  connections = t.roster.connections.items;
-  epoch = t.live.number;
-  live = t.live.history.items;
-  rights = t.live.rights;
-  present = t.roster.present;
-  opens = t.roster.opens;
-  owner = t.sending.owner;
-  place = t.sending.place;
-  parts = t.sending.parts.items;
-  part_bytes = t.sending.part_bytes;
-}
+seen t = seen_in t.journal.items t.roster t.sending t.live
 
 -- the tables are those of the state to which the ledger leads, and lie within the limits
 pub record AreTables (t : Inside) : Type 0 where

@@ -12,7 +12,7 @@ ghost use Rattle.dp_tables.specs.Ready.{IsReady};
 use crate::ready::Ready;
 use crate::tables::Tables;
 use dp_acl::operators_stay;
-use dp_commit::{Supply, is_named, make_entries};
+use dp_commit::{Made, Supply, is_named, make_entries};
 use dp_epochs::{Connection, Decision, Effect, Event, Reply, decisions_have_effects, make_row};
 use dp_history::{first_operator, free_id, next_operator};
 use dp_keeper::{Row, RowBytes};
@@ -122,7 +122,7 @@ impl Tables {
     }
 
     /// What the event, whose row has this length, does to the session.
-    pub(crate) fn effect(&self, event: &Event, row: usize) -> Result<Effect, AllocError>
+    fn effect(&self, event: &Event, row: usize) -> Result<Effect, AllocError>
         requires { row ≡ length (row_of event.now) }
         ensures { IfOk result (IsEffect (state_in self.now) event.now) }
     {
@@ -138,14 +138,41 @@ impl Tables {
         })
     }
 
-    /// What the event, which does this, places beside what it says.
-    pub(crate) fn supply(&self, event: &Event, effect: Effect) -> Result<Supply, AllocError>
-        requires { IsEffect (state_in self.now) event.now effect }
-        ensures { IfOk result (IsSupply self.now.journal (state_in self.now) event.now effect) }
+    /// What the event, whose row has this length, does to the session, and what it places beside
+    /// what it says.
+    fn supplied(&self, event: &Event, row: usize) -> Result<(Effect, Supply), AllocError>
+        requires { row ≡ length (row_of event.now) }
+        ensures does { IfOk result (λ made. IsEffect (state_in self.now) event.now made.0) }
+        ensures places { IfOk result (λ made. IsSupply self.now.journal (state_in self.now)
+            event.now made.0 made.1) }
     {
+        let effect = self.effect(event, row)?;
         match effect {
-            Effect::Reopened { .. } => Ok(Supply::Opens(self.open_epoch()?)),
-            _ => make_entries(self.allocator(), event, effect),
+            Effect::Reopened { .. } => Ok((effect, Supply::Opens(self.open_epoch()?))),
+            _ => Ok((effect, make_entries(self.allocator(), event, effect)?)),
+        }
+    }
+
+    /// The event, whose row has this length, with what it does and what it places beside what it
+    /// says.
+    #[inline(always)]
+    pub(crate) fn made(&self, event: Event, row: usize) -> Result<Made, AllocError>
+        requires { row ≡ length (row_of event) }
+        ensures event { IfOk result (λ made. made.event ≡ event) }
+        ensures does { IfOk result (λ made. IsEffect (state_in self.now) event made.effect) }
+        ensures places { IfOk result (λ made. IsSupply self.now.journal (state_in self.now)
+            event made.effect made.supply) }
+    {
+        match self.supplied(&event, row) {
+            Ok((effect, supply)) => Ok(Made {
+                event,
+                effect,
+                supply,
+            }),
+            Err(error) => {
+                drop(event);
+                Err(error)
+            }
         }
     }
 
@@ -158,22 +185,13 @@ impl Tables {
         if !self.has_room(bytes.len()) {
             return Ok(None);
         }
-        let effect = self.effect(event, bytes.len())?;
-        let copy = event.copy()?;
-        match self.supply(event, effect) {
-            Ok(supply) => Ok(Some(Ready {
-                event: copy,
-                effect,
-                supply,
-                row: Row {
-                    n: self.events(),
-                    bytes: RowBytes::from_vec(bytes),
-                },
-            })),
-            Err(error) => {
-                drop(copy);
-                Err(error)
-            }
-        }
+        let made = self.made(event.copy()?, bytes.len())?;
+        Ok(Some(Ready {
+            made,
+            row: Row {
+                n: self.events(),
+                bytes: RowBytes::from_vec(bytes),
+            },
+        }))
     }
 }

@@ -2,18 +2,14 @@
 //!
 //! The rule: docs/protocol.md, "Kept rows".
 
-ghost use Rattle.std.specs.Prelude.{◌≡◌, ◌↔◌, [], length, true, IfOk, OnOk, OnErr};
+ghost use Rattle.std.specs.Prelude.{◌≡◌, ◌↔◌, [], true, IfOk, OnErr};
 ghost use Rattle.std.specs.Prelude.{MatchOption};
-ghost use Rattle.dp_epochs.specs.Effects.{IsEffect};
-ghost use Rattle.dp_epochs.specs.Rows.{row_of};
 ghost use Rattle.dp_epochs.specs.Resumed.{MayNotStand, MayStand, NamesGiven};
-ghost use Rattle.dp_commit.specs.Placed.{IsSupply};
 ghost use Rattle.dp_tables.specs.SessionLog.{state_in};
 ghost use Rattle.dp_tables.specs.Replay.{Replays};
 
 use crate::tables::Tables;
-use dp_commit::Supply;
-use dp_epochs::{Effect, Event, read_row, rows_spell_events};
+use dp_epochs::{Event, read_row, rows_spell_events};
 use dp_keeper::Row;
 use std::alloc::AllocError;
 
@@ -55,22 +51,6 @@ impl Tables {
         }
     }
 
-    /// What the event, whose row has this length, does to the session. Then what it places beside
-    /// what it says, with memory ready to keep it.
-    fn ready_for(&mut self, event: &Event, row: usize) -> Result<(Effect, Supply), AllocError>
-        requires { row ≡ length (row_of event.now) }
-        ensures same { self.new ≡ record self.old { room = self.new.room } }
-        ensures room { OnOk result (self.new.room ≡ true) }
-        ensures does { IfOk result (λ made. IsEffect (state_in self.old) event.now made.0) }
-        ensures places { IfOk result (λ made. IsSupply self.old.journal (state_in self.old)
-            event.now made.0 made.1) }
-    {
-        self.make_room()?;
-        let effect = self.effect(event, row)?;
-        let supply = self.supply(event, effect)?;
-        Ok((effect, supply))
-    }
-
     /// Keeps the event of a row of this number and these bytes, if it may stand next.
     fn keep_row(&mut self, n: u64, bytes: &[u8]) -> Result<bool, AllocError>
         requires { self.old.shut ≡ [] }
@@ -82,13 +62,14 @@ impl Tables {
         let Some(event) = self.next_event(n, bytes)? else {
             return Ok(false);
         };
-        match self.ready_for(&event, bytes.len()) {
-            Ok((effect, supply)) => {
-                self.keep_made(event, effect, supply, bytes.len() as u64);
+        let made = self.made(event, bytes.len())?;
+        match self.make_room() {
+            Ok(()) => {
+                self.take(made, bytes.len() as u64);
                 Ok(true)
             }
             Err(error) => {
-                drop(event);
+                drop(made);
                 Err(error)
             }
         }

@@ -68,7 +68,17 @@ impl Tables {
         ensures journal { result.0.items ≡ self.journal }
         ensures shut { result.1.items ≡ self.shut }
     {
-        let Tables { journal, shut, .. } = self;
+        let Tables {
+            journal,
+            shut,
+            roster,
+            sending,
+            live,
+            ..
+        } = self;
+        drop(roster);
+        drop(sending);
+        drop(live);
         (journal, shut)
     }
 

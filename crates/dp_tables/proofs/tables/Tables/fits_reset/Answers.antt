@@ -7,7 +7,7 @@ use Rattle.dp_epochs.specs.State.{part_bytes, reset_byte_limit}
 use Rattle.dp_tables.specs.SessionLog.{state_in}
 use Rattle.dp_tables.specs.Inside.{seen}
 use Rattle.dp_tables.proofs.TableLemmas.{of-ledger}
-use Rattle.dp_tables.proofs.ResetLemmas.{fits-is}
+use Rattle.dp_commit.proofs.ResetLemmas.{fits-is}
 use Rattle.dp_tables.proofs.tables.Tables.fits_reset.Goals as goal
 
 pub returns-then-len-lt-PART_LIMIT : goal.returns-then-len-lt-PART_LIMIT

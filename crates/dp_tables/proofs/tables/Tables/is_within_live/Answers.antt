@@ -1,7 +1,8 @@
 use Rattle.std.proofs.Common.{◌≡◌, length, nat_le, ap, arith}
 use Rattle.dp_tables.specs.SessionLog.{state_in}
 use Rattle.dp_tables.specs.Inside.{seen}
-use Rattle.dp_tables.proofs.TableLemmas.{of-ledger, live-length}
+use Rattle.dp_commit.proofs.StateLemmas.{live-length}
+use Rattle.dp_tables.proofs.TableLemmas.{of-ledger}
 use Rattle.dp_tables.proofs.tables.Tables.is_within_live.Goals as goal
 
 pub returns : goal.returns

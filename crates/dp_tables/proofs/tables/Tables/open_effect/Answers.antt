@@ -2,7 +2,7 @@ use Rattle.std.proofs.Common.{◌≡◌, true, sym, ◌∙◌}
 use Rattle.dp_tables.specs.SessionLog.{state_in}
 use Rattle.dp_tables.specs.Inside.{seen}
 use Rattle.dp_tables.proofs.TableLemmas.{of-ledger}
-use Rattle.dp_tables.proofs.CauseLemmas.{free-marked, join-cause}
+use Rattle.dp_commit.proofs.CauseLemmas.{free-marked, join-cause}
 use Rattle.dp_tables.proofs.tables.Tables.open_effect.Goals as goal
 
 pub returns-in-Some : goal.returns-in-Some

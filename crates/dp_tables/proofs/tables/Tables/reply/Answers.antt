@@ -1,4 +1,4 @@
-use Rattle.std.proofs.Common.{◌≡◌, length, ap, ◌∙◌, arith}
+use Rattle.std.proofs.Common.{◌≡◌, length, sym, ap, ◌∙◌, arith}
 use Rattle.dp_epochs.specs.Effects.{answer_at}
 use Rattle.dp_epochs.specs.State.{here}
 use Rattle.dp_tables.specs.SessionLog.{state_in}
@@ -28,7 +28,7 @@ reply-requires-clause-epoch c =
     )
 
 pub returns : goal.returns
-returns c =
+returns c = λ e cause.
     let t = c.self.inside in
     let s = state_in c.args.self.now in
     let are = of-ledger t c.args.self.now c.self.invariant c.self.view_is in
@@ -37,3 +37,4 @@ returns c =
     c.reply.ensures
     ∙ ap (λ p. answer_at p c.len.result c.args.effect) c.here.ensures
     ∙ ap (λ n. answer_at (here s) n c.args.effect) count
+    ∙ sym (ap (λ a. a.reply) (c.effects_are_made.ensures s e c.args.effect cause))
