@@ -1,5 +1,6 @@
 //! Links in memory.
 
+use crate::checks::{are, check};
 use dp_io::{MemSink, MemSource, Sink, Source};
 use dp_wire::{MemWire, Wire, WireError};
 use std::alloc::Global;
@@ -36,19 +37,44 @@ fn wire_of(rt: &impl Abort, alloc: Global, bytes: [u8; 3], fails: &[u64]) -> Mem
     MemWire::new(links, Vec::from_slice(alloc, fails).expect(rt, "memory"))
 }
 
+/// Checks what becomes of the next link.
+fn check_echo(rt: &impl Abort, wire: &mut MemWire, want: Result<bool, WireError>, place: usize) {
+    check(rt, echo(wire) == want, "links", place);
+}
+
+/// Dials, and lets the link go.
+fn dial(wire: &mut MemWire) -> Result<(), WireError> {
+    match wire.dial() {
+        Ok((rx, tx)) => {
+            drop(rx);
+            drop(tx);
+            Ok(())
+        }
+        Err(error) => Err(error),
+    }
+}
+
+/// Whether as many links are back, each of which was sent one of these bytes.
+fn are_back(wire: &MemWire, sent: &[u8]) -> bool {
+    for (link, byte) in wire.back().iter().zip(sent) {
+        if !are(link.1.as_slice(), &[*byte]) {
+            return false;
+        }
+    }
+    wire.back().len() == sent.len()
+}
+
 // The calls of accept and dial are counted together, from 1. Links come back in order.
 #[test]
 fn listed_calls_fail(rt: HostRuntime) {
     let mut wire = wire_of(&rt, rt.alloc(), [7, 8, 9], &[1, 3]);
-    assert!(rt; echo(&mut wire) == Err(WireError::Failed));
-    assert!(rt; wire.dial().is_ok());
-    let wants = [Err(WireError::Failed), Ok(true), Ok(true), Ok(false)];
-    for want in wants {
-        assert!(rt; echo(&mut wire) == want);
-    }
-    assert!(rt; wire.dial().err() == Some(WireError::Failed));
-    let back = wire.back();
-    assert!(rt; back.len() == 2);
-    assert!(rt; back[0].1.as_slice() == [8].as_slice());
-    assert!(rt; back[1].1.as_slice() == [9].as_slice());
+    check_echo(&rt, &mut wire, Err(WireError::Failed), 1);
+    assert!(rt; dial(&mut wire) == Ok(()));
+    check_echo(&rt, &mut wire, Err(WireError::Failed), 3);
+    check_echo(&rt, &mut wire, Ok(true), 4);
+    check_echo(&rt, &mut wire, Ok(true), 5);
+    check_echo(&rt, &mut wire, Ok(false), 6);
+    assert!(rt; dial(&mut wire) == Err(WireError::Failed));
+    assert!(rt; are_back(&wire, &[8, 9]));
+    drop(wire);
 }

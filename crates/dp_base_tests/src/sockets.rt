@@ -1,5 +1,6 @@
 //! Links over TCP, on the loopback.
 
+use crate::checks::are;
 use dp_io::{Failed, Sink, Source};
 use dp_wire::{TcpRx, TcpTx, TcpWire, Wire, WireError};
 use std::alloc::Global;
@@ -50,44 +51,83 @@ fn dialed<N: Net<Listener = TcpListener, Stream = TcpStream> + Drop>(
     wire.dial().ok().expect(rt, "a link")
 }
 
+/// A peer that has dialed this port.
+fn peer_of<N: Net<Listener = TcpListener, Stream = TcpStream> + Abort>(
+    rt: &N,
+    port: u16,
+) -> TcpStream {
+    TcpStream::connect(rt, (Ipv4Addr::LOCALHOST, port)).expect(rt, "a peer")
+}
+
+/// How many bytes a peer reads.
+fn peer_reads(rt: &impl Abort, peer: &mut TcpStream, buf: &mut [u8]) -> usize {
+    io::Read::read(peer, buf).expect(rt, "bytes")
+}
+
 /// A peer, and the link that it opened.
 fn link<N: Net<Listener = TcpListener, Stream = TcpStream> + Copy + Drop + Abort>(
     rt: &N,
     alloc: Global,
 ) -> (TcpStream, TcpRx, TcpTx) {
     let (mut wire, other) = listen(rt, alloc);
-    let port = other.port().expect(rt, "a port");
-    let peer = TcpStream::connect(rt, (Ipv4Addr::LOCALHOST, port)).expect(rt, "a peer");
+    let peer = peer_of(rt, port_of(rt, other));
     let (rx, tx) = accepted(rt, &mut wire);
+    drop(wire);
     (peer, rx, tx)
+}
+
+/// Whether one write takes all of these bytes.
+fn sends(tx: &mut TcpTx, bytes: &[u8]) -> bool {
+    tx.write(bytes) == Ok(bytes.len())
+}
+
+/// How many bytes a read gives.
+fn received(rt: &impl Abort, rx: &mut TcpRx, buf: &mut [u8]) -> usize {
+    rx.read(buf).ok().expect(rt, "bytes")
+}
+
+/// The port that a wire listens at.
+fn port_of<N: Net<Listener = TcpListener, Stream = TcpStream> + Copy + Drop>(
+    rt: &impl Abort,
+    wire: TcpWire<N>,
+) -> u16 {
+    let port = wire.port();
+    drop(wire);
+    port.expect(rt, "a port")
 }
 
 // Two wires share one listener: a link that was dialed at the port of one is given by the other.
 #[test]
 fn bytes_go_both_ways(rt: HostRuntime) {
     let (mut wire, other) = listen(&rt, rt.alloc());
-    let port = other.port().expect(&rt, "a port");
+    let port = port_of(&rt, other);
     let mut dialer = dialer(&rt, rt.alloc(), port);
     let (mut near_rx, mut near_tx) = dialed(&rt, &mut dialer);
+    drop(dialer);
     let (mut far_rx, mut far_tx) = accepted(&rt, &mut wire);
     let mut buf = [0; 9];
-    assert!(rt; near_tx.write(b"ping") == Ok(4));
-    assert!(rt; far_rx.read(&mut buf) == Ok(4));
-    assert!(rt; far_tx.write(&buf[..4]) == Ok(4));
+    assert!(rt; sends(&mut near_tx, b"ping"));
+    assert!(rt; received(&rt, &mut far_rx, &mut buf) == 4);
+    assert!(rt; sends(&mut far_tx, &buf[..4]));
     wire.done(far_rx, far_tx);
-    assert!(rt; near_rx.read(&mut buf) == Ok(4));
-    assert!(rt; &buf[..4] == b"ping".as_slice());
-    assert!(rt; near_rx.read(&mut buf) == Ok(0), "the other end is done");
+    drop(wire);
+    assert!(rt; received(&rt, &mut near_rx, &mut buf) == 4);
+    assert!(rt; are(&buf[..4], b"ping"));
+    // The other end is done.
+    assert!(rt; received(&rt, &mut near_rx, &mut buf) == 0);
+    drop(near_tx);
+    drop(near_rx);
 }
 
 #[test]
 fn a_dial_is_refused(rt: HostRuntime) {
     let (wire, other) = listen(&rt, rt.alloc());
-    let port = other.port().expect(&rt, "a port");
+    let port = port_of(&rt, other);
     drop(wire);
-    drop(other);
     let mut dialer = dialer(&rt, rt.alloc(), port);
-    assert!(rt; dialer.dial().err() == Some(WireError::Failed));
+    let dialed = dialer.dial().err();
+    drop(dialer);
+    assert!(rt; dialed == Some(WireError::Failed));
 }
 
 /// Hands out a listener and a stream that the test has too.
@@ -119,6 +159,14 @@ fn listener(rt: &(impl Net<Listener = TcpListener, Stream = TcpStream> + Abort))
     TcpListener::bind(rt, "127.0.0.1:0").expect(rt, "a listener")
 }
 
+/// Shuts a listener.
+fn shut(rt: &impl Abort, listener: &TcpListener) {
+    let same = listener.try_clone().expect(rt, "a listener");
+    let socket = TcpStream::from(OwnedFd::from(same));
+    socket.shutdown(Shutdown::Both).expect(rt, "shut");
+    drop(socket);
+}
+
 #[test]
 fn a_listener_is_shut(rt: HostRuntime) {
     let listener = listener(&rt);
@@ -128,10 +176,10 @@ fn a_listener_is_shut(rt: HostRuntime) {
     };
     let mut wires = TcpWire::listen(&net, rt.alloc(), "127.0.0.1:0", 1).expect(&rt, "a wire");
     let mut wire = wires.pop().expect(&rt, "a wire");
-    let same = listener.try_clone().expect(&rt, "a listener");
-    let socket = TcpStream::from(OwnedFd::from(same));
-    socket.shutdown(Shutdown::Both).expect(&rt, "shut");
-    assert!(rt; wire.accept().err() == Some(WireError::Failed));
+    shut(&rt, &listener);
+    let accepted = wire.accept().err();
+    drop(wire);
+    assert!(rt; accepted == Some(WireError::Failed));
 }
 
 // The peer has sent all, and still reads.
@@ -140,40 +188,53 @@ fn a_peer_closes_its_half(rt: HostRuntime) {
     let (mut peer, mut rx, mut tx) = link(&rt, rt.alloc());
     peer.shutdown(Shutdown::Write).expect(&rt, "shut");
     let mut buf = [0; 9];
-    assert!(rt; rx.read(&mut buf) == Ok(0));
-    assert!(rt; tx.write(b"so long") == Ok(7));
-    let count = io::Read::read(&mut peer, &mut buf).expect(&rt, "bytes");
-    assert!(rt; count == 7);
+    assert!(rt; received(&rt, &mut rx, &mut buf) == 0);
+    assert!(rt; sends(&mut tx, b"so long"));
+    assert!(rt; peer_reads(&rt, &mut peer, &mut buf) == 7);
+    drop(peer);
+    drop(rx);
+    drop(tx);
 }
 
 // A peer that closes with bytes unread resets the link.
 #[test]
 fn a_peer_resets(rt: HostRuntime) {
     let (mut peer, mut rx, mut tx) = link(&rt, rt.alloc());
-    assert!(rt; tx.write(b"two") == Ok(3));
-    let count = io::Read::read(&mut peer, &mut [0]).expect(&rt, "a byte");
-    assert!(rt; count == 1);
+    assert!(rt; sends(&mut tx, b"two"));
+    assert!(rt; peer_reads(&rt, &mut peer, &mut [0]) == 1);
     drop(peer);
     assert!(rt; rx.read(&mut [0]) == Err(Failed));
     assert!(rt; tx.write(b"more") == Err(Failed));
+    drop(rx);
+    drop(tx);
+}
+
+/// A peer that has sent six bytes, which are not read, and four bytes that were sent to it before
+/// the link was done.
+fn left_unread<N: Net<Listener = TcpListener, Stream = TcpStream> + Copy + Drop + Abort>(
+    rt: &N,
+    alloc: Global,
+) -> TcpStream {
+    let (mut wire, other) = listen(rt, alloc);
+    let mut peer = peer_of(rt, port_of(rt, other));
+    let (rx, mut tx) = accepted(rt, &mut wire);
+    let count = io::Write::write(&mut peer, b"unread").expect(rt, "bytes");
+    assert!(rt; count == 6);
+    assert!(rt; sends(&mut tx, b"last"));
+    wire.done(rx, tx);
+    drop(wire);
+    peer
 }
 
 // What a peer sent and nobody read resets no link: the peer gets the last bytes, and then the end.
 #[test]
 fn a_link_is_closed_with_bytes_unread(rt: HostRuntime) {
-    let (mut wire, other) = listen(&rt, rt.alloc());
-    let port = other.port().expect(&rt, "a port");
-    let mut peer = TcpStream::connect(&rt, (Ipv4Addr::LOCALHOST, port)).expect(&rt, "a peer");
-    let (rx, mut tx) = accepted(&rt, &mut wire);
-    let count = io::Write::write(&mut peer, b"unread").expect(&rt, "bytes");
-    assert!(rt; count == 6);
-    assert!(rt; tx.write(b"last") == Ok(4));
-    wire.done(rx, tx);
+    let mut peer = left_unread(&rt, rt.alloc());
     let mut buf = [0; 9];
-    let count = io::Read::read(&mut peer, &mut buf).expect(&rt, "bytes");
-    assert!(rt; count == 4);
-    let count = io::Read::read(&mut peer, &mut buf).expect(&rt, "no reset");
-    assert!(rt; count == 0);
+    assert!(rt; peer_reads(&rt, &mut peer, &mut buf) == 4);
+    // No reset.
+    assert!(rt; peer_reads(&rt, &mut peer, &mut buf) == 0);
+    drop(peer);
 }
 
 /// Writes until a write fails, or 2^18 writes were made.
@@ -210,6 +271,7 @@ fn a_peer_stops_reading(rt: HostRuntime) {
     };
     let mut wire = TcpWire::dialer(&net, rt.alloc(), "127.0.0.1:1").expect(&rt, "memory");
     let (mut rx, tx) = dialed(&rt, &mut wire);
+    drop(wire);
     check_settings(&rt, &stream);
     let limit = Some(Duration::from_millis(100));
     stream.set_write_timeout(limit).expect(&rt, "a limit");

@@ -1,5 +1,6 @@
 //! Rows in pages, and a store whose listed calls fail.
 
+use crate::checks::{are, check};
 use dp_keeper::{KeepError, Keeper, MemKeeper, Row, RowBytes, Rows, SureKeeper};
 use std::alloc::Global;
 use std::process::Abort;
@@ -11,28 +12,41 @@ fn row(rt: &impl Abort, alloc: Global, number: u8) -> Row {
     Row { n, bytes }
 }
 
-/// Checks the numbers of rows.
-fn check(rt: &impl Abort, rows: &Rows, numbers: &[u8]) {
-    assert!(rt; rows.as_slice().len() == numbers.len());
+/// Whether rows have these numbers.
+fn are_numbered(rows: &Rows, numbers: &[u8]) -> bool {
     for (row, number) in rows.as_slice().iter().zip(numbers) {
-        assert!(rt; row.n == u64::from(*number));
-        assert!(rt; row.bytes.as_slice() == [*number].as_slice());
+        if row.n != u64::from(*number) || !are(row.bytes.as_slice(), &[*number]) {
+            return false;
+        }
     }
+    rows.as_slice().len() == numbers.len()
 }
+
+/// Puts the row of this number, of which this comes.
+fn check_put<K: Keeper>(
+    rt: &impl Abort,
+    alloc: Global,
+    keeper: &mut K,
+    number: u8,
+    want: Result<(), KeepError>,
+) {
+    let row = row(rt, alloc, number);
+    let outcome = keeper.put(&row);
+    drop(row);
+    check(rt, outcome == want, "rows put", usize::from(number));
+}
+
+/// From which row on a page is read, how many rows at most, and the numbers of those that it has.
+static PAGES: [(u64, u32, &[u8]); 4] = [(0, 9, &[0, 1, 2]), (1, 1, &[1]), (2, 0, &[]), (3, 4, &[])];
 
 /// Puts three rows, and reads pages of them.
 fn put_and_read<K: Keeper>(rt: &impl Abort, alloc: Global, keeper: &mut K) {
     for n in 0..3 {
-        assert!(rt; keeper.put(&row(rt, alloc, n)) == Ok(()));
+        check_put(rt, alloc, keeper, n, Ok(()));
     }
-    for (from, max, numbers) in [
-        (0, 9, [0, 1, 2].as_slice()),
-        (1, 1, [1].as_slice()),
-        (2, 0, [].as_slice()),
-        (3, 4, [].as_slice()),
-    ] {
-        let page = keeper.rows(from, max).expect(rt, "a page");
-        check(rt, &page, numbers);
+    for (k, (from, max, numbers)) in PAGES.iter().enumerate() {
+        let page = keeper.rows(*from, *max).expect(rt, "a page");
+        check(rt, are_numbered(&page, numbers), "pages", k);
     }
     assert!(rt; keeper.count() == 0);
 }
@@ -52,15 +66,11 @@ fn listed_calls_fail(rt: HostRuntime) {
     let fails = vec![in alloc; (2, false), (3, true)].expect(&rt, "memory");
     let asks = vec![in alloc; 1].expect(&rt, "memory");
     let mut keeper = MemKeeper::new(Rows::new(alloc), fails, asks);
-    for (n, answer) in [
-        (0, Ok(())),
-        (1, Err(KeepError::Failed)),
-        (2, Err(KeepError::Failed)),
-        (3, Ok(())),
-    ] {
-        assert!(rt; keeper.put(&row(&rt, alloc, n)) == answer);
-    }
+    check_put(&rt, alloc, &mut keeper, 0, Ok(()));
+    check_put(&rt, alloc, &mut keeper, 1, Err(KeepError::Failed));
+    check_put(&rt, alloc, &mut keeper, 2, Err(KeepError::Failed));
+    check_put(&rt, alloc, &mut keeper, 3, Ok(()));
     assert!(rt; keeper.rows(0, 1).err() == Some(KeepError::Failed));
     assert!(rt; keeper.count() == 2);
-    check(&rt, keeper.held(), &[0, 2, 3]);
+    assert!(rt; are_numbered(keeper.held(), &[0, 2, 3]));
 }

@@ -3,6 +3,7 @@
 ghost use Rattle.std.specs.Prelude.{◌≡◌, ◌≤◌, OnErr};
 ghost use Rattle.dp_io.specs.Faults.{Rose};
 
+use crate::checks::{are, check};
 use dp_io::{Failed, MemSink, MemSource, Sink, Source, StdSink, StdSource, SureSource, put_all};
 use std::alloc::Global;
 use std::process::Abort;
@@ -32,16 +33,35 @@ fn read_once<R: Source>(source: &mut R, buf: &mut [u8]) -> Result<usize, Failed>
     source.read(buf)
 }
 
+/// Reads at most four bytes, of which this comes. It is the call of this number.
+fn check_read<R: Source>(
+    rt: &impl Abort,
+    source: &mut R,
+    want: Result<usize, Failed>,
+    number: usize,
+) {
+    let mut buf = [0; 4];
+    check(rt, source.read(&mut buf) == want, "reads", number);
+}
+
+/// Writes bytes, of which this comes. It is the call of this number.
+fn check_write<S: Sink>(
+    rt: &impl Abort,
+    sink: &mut S,
+    bytes: &[u8],
+    want: Result<usize, Failed>,
+    number: usize,
+) {
+    check(rt, sink.write(bytes) == want, "writes", number);
+}
+
 #[test]
 fn pieces_of_any_length_give_the_same(rt: HostRuntime) {
     let alloc = rt.alloc();
     for piece in 1..9 {
         let mut source = MemSource::new(list(&rt, alloc, &BYTES), piece, Vec::new(alloc));
         let bytes = read_all(&rt, alloc, &mut source);
-        assert!(rt;
-            bytes.as_slice() == BYTES.as_slice(),
-            "in pieces of {piece}"
-        );
+        check(&rt, are(&bytes, &BYTES), "pieces", piece);
     }
 }
 
@@ -50,19 +70,13 @@ fn a_source_fails_at_the_listed_calls(rt: HostRuntime) {
     let alloc = rt.alloc();
     let fails = list(&rt, alloc, &[2, 3, 6]);
     let mut source = MemSource::new(list(&rt, alloc, &BYTES), 3, fails);
-    let mut buf = [0; 4];
-    let wants = [
-        Ok(3),
-        Err(Failed),
-        Err(Failed),
-        Ok(3),
-        Ok(1),
-        Err(Failed),
-        Ok(0),
-    ];
-    for want in wants {
-        assert!(rt; source.read(&mut buf) == want);
-    }
+    check_read(&rt, &mut source, Ok(3), 1);
+    check_read(&rt, &mut source, Err(Failed), 2);
+    check_read(&rt, &mut source, Err(Failed), 3);
+    check_read(&rt, &mut source, Ok(3), 4);
+    check_read(&rt, &mut source, Ok(1), 5);
+    check_read(&rt, &mut source, Err(Failed), 6);
+    check_read(&rt, &mut source, Ok(0), 7);
 }
 
 // Over a source that never fails, a fault is ruled out by what a generic call says of its causes.
@@ -72,7 +86,7 @@ fn a_sure_source_gives_no_fault(rt: HostRuntime) {
     let mut buf = [0; 4];
     for want in [4, 3, 0] {
         match read_once(&mut source, &mut buf) {
-            Ok(count) => assert!(rt; count == want),
+            Ok(count) => check(&rt, count == want, "counts", want),
             Err(_) => unreachable!(),
         }
     }
@@ -81,29 +95,34 @@ fn a_sure_source_gives_no_fault(rt: HostRuntime) {
 #[test]
 fn a_sink_is_full(rt: HostRuntime) {
     let mut sink = MemSink::new(rt.alloc(), 3, 2, Vec::new(rt.alloc())).expect(&rt, "memory");
-    let pieces: [&[u8]; 4] = [&[7, 8, 9], &[9, 6], &[6], &[]];
-    let wants = [Ok(2), Ok(1), Err(Failed), Ok(0)];
-    for (piece, want) in pieces.iter().zip(wants) {
-        assert!(rt; sink.write(piece) == want);
-    }
-    assert!(rt; sink.as_slice() == [7, 8, 9].as_slice());
+    check_write(&rt, &mut sink, &[7, 8, 9], Ok(2), 1);
+    check_write(&rt, &mut sink, &[9, 6], Ok(1), 2);
+    check_write(&rt, &mut sink, &[6], Err(Failed), 3);
+    check_write(&rt, &mut sink, &[], Ok(0), 4);
+    assert!(rt; are(sink.as_slice(), &[7, 8, 9]));
+}
+
+/// Writes the bytes to a sink of this room, in pieces of two, whose write of this number fails.
+/// What it says, and how many were written.
+fn put_into(rt: &impl Abort, alloc: Global, room: usize, fail: u64) -> (Result<(), Failed>, usize) {
+    let mut sink = MemSink::new(alloc, room, 2, list(rt, alloc, &[fail])).expect(rt, "memory");
+    let outcome = put_all(&mut sink, &BYTES);
+    assert!(rt; BYTES.starts_with(sink.as_slice()));
+    (outcome, sink.as_slice().len())
 }
 
 // For each room and failing call: whether all was written, and how much.
 #[test]
 fn put_all_writes_a_prefix(rt: HostRuntime) {
-    let alloc = rt.alloc();
     let cases = [
         (7, 5, Ok(()), 7),
         (7, 4, Err(Failed), 6),
         (9, 1, Err(Failed), 0),
         (5, 9, Err(Failed), 5),
     ];
-    for (room, fail, want, written) in cases {
-        let fails = list(&rt, alloc, &[fail]);
-        let mut sink = MemSink::new(alloc, room, 2, fails).expect(&rt, "memory");
-        assert!(rt; put_all(&mut sink, &BYTES) == want);
-        assert!(rt; sink.as_slice() == &BYTES[..written]);
+    for (k, (room, fail, want, written)) in cases.iter().enumerate() {
+        let found = put_into(&rt, rt.alloc(), *room, *fail);
+        check(&rt, found == (*want, *written), "prefixes", k);
     }
 }
 
@@ -116,10 +135,10 @@ fn adapters_pass_the_bytes_on(rt: HostRuntime) {
     assert!(rt; prefix == [3, 1, 4]);
     let mut source = StdSource::new(source.into_inner());
     let bytes = read_all(&rt, alloc, &mut source);
-    assert!(rt; bytes.as_slice() == [1, 5, 9, 2].as_slice());
+    assert!(rt; are(&bytes, &[1, 5, 9, 2]));
     let mut sink = StdSink::new(Vec::new(alloc));
     assert!(rt; put_all(&mut sink, &BYTES) == Ok(()));
-    assert!(rt; sink.into_inner().as_slice() == BYTES.as_slice());
+    assert!(rt; are(&sink.into_inner(), &BYTES));
 }
 
 // A writer that takes nothing has failed.
@@ -127,7 +146,7 @@ fn adapters_pass_the_bytes_on(rt: HostRuntime) {
 fn a_full_writer_fails(rt: HostRuntime) {
     let mut room = [0; 2];
     let mut sink = StdSink::new(room.as_mut_slice());
-    assert!(rt; sink.write(&[5, 6, 7]) == Ok(2));
-    assert!(rt; sink.write(&[7]) == Err(Failed));
-    assert!(rt; sink.write(&[]) == Ok(0));
+    check_write(&rt, &mut sink, &[5, 6, 7], Ok(2), 1);
+    check_write(&rt, &mut sink, &[7], Err(Failed), 2);
+    check_write(&rt, &mut sink, &[], Ok(0), 3);
 }

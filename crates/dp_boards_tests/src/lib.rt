@@ -1,5 +1,5 @@
-//! The tests of boards, rollbacks, forks and screens, in a crate of their own: so each crate of
-//! these is proved once, and not once more with its tests.
+//! The tests of rollbacks, forks and screens, in a crate of their own: so each crate of these is
+//! proved once, and not once more with its tests.
 #![tactic(auto)]
 
 #[cfg(test)]
@@ -8,5 +8,3 @@ mod forks;
 mod rollbacks;
 #[cfg(test)]
 mod screens;
-#[cfg(test)]
-mod strokes;
