@@ -2,24 +2,16 @@
 
 ghost use Rattle.std.specs.Prelude.{◌≡◌, IfOk, None};
 
+use crate::table::{add, connect, find, let_go, set_up};
 use dp_keeper::{KeepError, Keeper, Row, RowBytes, Rows};
-use sqlite::{Alter, Connection, Error, ErrorCode, File, FileStore, Statement, params};
+use sqlite::{Connection, Error, ErrorCode, File, FileStore, Statement};
 use std::alloc::Global;
 use std::marker::Model;
-
-/// The table of the rows.
-const TABLE: &str =
-    "CREATE TABLE IF NOT EXISTS journal (n INTEGER PRIMARY KEY, bytes BLOB NOT NULL) STRICT";
-
-const INSERT: &str = "INSERT INTO journal (n, bytes) VALUES (?1, ?2)";
-
-const SELECT: &str = "SELECT n, bytes FROM journal WHERE n >= ?1 ORDER BY n LIMIT ?2";
 
 const NO_MEMORY: Error = Error::SqliteFailure(ErrorCode::OutOfMemory);
 
 /// Rows in a file that sqlite3 reads, in the table `journal`. Each put is a transaction of its own:
 /// when it is answered `Ok`, the row is on the disk. No clause says what a file holds.
-#[derive(Drop)]
 pub struct SqlKeeper {
     conn: Connection<FileStore<File>>,
     insert: Statement,
@@ -27,6 +19,22 @@ pub struct SqlKeeper {
     alloc: Global,
     put_faults: u64,
     read_faults: u64,
+}
+
+// It is written out, so that it is only called where a store is let go. A derived one would be
+// proved again there, and take the check over 3 GB.
+impl Drop for SqlKeeper {
+    fn drop(self) {
+        let SqlKeeper {
+            conn,
+            insert: _,
+            select: _,
+            alloc: _,
+            put_faults: _,
+            read_faults: _,
+        } = self;
+        let_go(conn);
+    }
 }
 
 impl Model for SqlKeeper {
@@ -44,51 +52,6 @@ fn refusal(error: Error) -> KeepError {
     } else {
         KeepError::Failed
     }
-}
-
-/// Opens the file, or makes it. No clause says more, so that no caller's proof carries what sqlite
-/// says. So it is with the calls below. They are for any store, as it costs each call of them much
-/// to show that the files are one.
-fn connect(rt: &HostRuntime, path: &str) -> Result<Connection<FileStore<File>>, Error> {
-    Connection::open(rt, path)
-}
-
-/// Makes the table, if there is none.
-fn make_table<S: Alter>(conn: &mut Connection<S>) -> Result<(), Error> {
-    conn.execute_batch(TABLE)
-}
-
-/// A statement of this text.
-fn prepare<S: Alter>(conn: &mut Connection<S>, text: &str) -> Result<Statement, Error> {
-    conn.prepare(text)
-}
-
-/// Makes the table. Gives the statements that add a row and read rows.
-fn set_up<S: Alter>(conn: &mut Connection<S>) -> Result<(Statement, Statement), Error> {
-    make_table(conn)?;
-    let insert = prepare(conn, INSERT)?;
-    let select = prepare(conn, SELECT)?;
-    Ok((insert, select))
-}
-
-/// Adds a row by the statement that adds one.
-fn add<S: Alter>(
-    statement: &Statement,
-    conn: &mut Connection<S>,
-    n: i64,
-    bytes: &[u8],
-) -> Result<usize, Error> {
-    statement.execute(conn, params![n, bytes])
-}
-
-/// The rows that the statement reads.
-fn find<S: Alter>(
-    statement: &Statement,
-    conn: &mut Connection<S>,
-    from: i64,
-    max: u32,
-) -> Result<Vec<sqlite::Row>, Error> {
-    statement.query_all(conn, params![from, max])
 }
 
 /// A row of the table. A number below 0 is no row's, and is read as the greatest number.
@@ -140,7 +103,10 @@ impl SqlKeeper {
                 put_faults: 0,
                 read_faults: 0,
             }),
-            Err(error) => Err(refusal(error)),
+            Err(error) => {
+                let_go(conn);
+                Err(refusal(error))
+            }
         }
     }
 

@@ -5,6 +5,7 @@
 
 mod keeper;
 mod laws;
+mod table;
 
 pub use keeper::SqlKeeper;
 pub use laws::stores_cross_threads;
