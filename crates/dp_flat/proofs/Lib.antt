@@ -2,4 +2,3 @@ pub mod Bands
 pub mod Composed
 pub mod Prefixes
 pub mod Rows
-mod Jobs

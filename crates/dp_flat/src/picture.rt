@@ -15,7 +15,6 @@ ghost use Rattle.dp_plain.specs.Picture.{p3, p6, picture_text};
 ghost use Rattle.dp_flat.specs.Bands.{HasRows, IsBand, IsLine, chunk_pixels, rgb_text};
 ghost use Rattle.dp_flat.specs.Composed.{IsDeep, seen_row};
 ghost use Rattle.dp_shown.specs.Ends.{is_sink_fault};
-ghost use Rattle.dp_flat.specs.Jobs.{AreJobsOf};
 ghost use Rattle.dp_flat.specs.Texts.{GrowsBefore, magic_of, pixel_text_of};
 
 use crate::band::{BLACK, Rgb, draw_band, tiles_along};
@@ -24,13 +23,14 @@ use crate::text::{
     CHUNK_BYTES, Format, PIECE_BYTES, Piece, SolidText, head_of, push_all, push_chunk, push_solid,
 };
 use crate::tone::{BUFFER, SIDE};
-use crate::workers::{BandJob, make_jobs, make_ready, next_slot};
+use crate::workers::{Band, Shown, Slot, draw_ahead, make_slots, next_slot};
 use dp_blend::Pixel;
 use dp_io::{Failed, Sink, put_all};
 use dp_plain::BoardView;
 use dp_shown::PictureEnd;
 use dp_wire::Gate;
 use std::alloc::{AllocError, Global};
+use std::marker::Brand;
 use std::thread::Threads;
 
 /// Writes the picture of the board as a P6 file, a piece of at most 49152 bytes at a time.
@@ -107,9 +107,8 @@ pub fn write_p6_by<R: Threads + Sync, V: BoardView + Sync, S: Sink, G: Gate>(
     } else {
         workers.saturating_mul(2)
     };
-    let mut jobs = make_jobs(alloc, board, together.min(rows).max(1))?;
-    put_by(rt, workers, gate, Format::P6, board, &mut jobs, out)?;
-    Ok(())
+    let together = together.min(rows).max(1);
+    write_by::<R, V, S, G, Brand>(rt, alloc, workers, gate, board, together, out)
 }
 
 /// Writes the picture of the board in the format.
@@ -179,17 +178,46 @@ fn put_picture<V: BoardView, S: Sink>(
     put_all(out, piece.as_slice())
 }
 
-/// Writes the picture of the board in the format, its rows of tiles drawn in the jobs by workers.
-fn put_by<R: Threads + Sync, V: BoardView + Sync, S: Sink, G: Gate>(
+/// Writes the picture of the board in the format, its rows of tiles drawn by workers, up to
+/// `together` at the same time.
+fn write_by<R: Threads + Sync, V: BoardView + Sync, S: Sink, G: Gate, B: Shown>(
+    rt: &R,
+    alloc: Global,
+    workers: u32,
+    gate: &G,
+    board: &V,
+    together: u32,
+    out: &mut S,
+) -> Result<(), PictureEnd>
+    requires board { V.board board.now ≡ B.shown }
+    requires some { 0 < together }
+    requires few { together ≤ 64 }
+    ensures written { OnOk result
+        (Appends (S.held out.old) (S.held out.new) (p6 (V.board board.now))) }
+    ensures prefix { GrowsByPrefix (S.held out.old) (S.held out.new) (p6 (V.board board.now)) }
+    ensures memory { IsErrOf result PictureEnd.Memory → Keeps (S.held out.old) (S.held out.new) }
+    ensures memory_uncounted { IsErrOf result PictureEnd.Memory
+        → S.faults out.new ≡ S.faults out.old }
+    ensures cause { HasCause is_sink_fault (S.faults out.old) (S.faults out.new) result }
+{
+    let mut slots: Vec<Slot<'_, V, B>> = make_slots(alloc, board, together)?;
+    put_by(rt, workers, gate, Format::P6, board, &mut slots, out)?;
+    Ok(())
+}
+
+/// Writes the picture of the board in the format, its rows of tiles drawn in the slots by workers.
+fn put_by<R: Threads + Sync, V: BoardView + Sync, S: Sink, G: Gate, B: Shown>(
     rt: &R,
     workers: u32,
     gate: &G,
     format: Format,
     board: &V,
-    jobs: &mut [BandJob<'_, V>],
+    slots: &mut [Slot<'_, V, B>],
     out: &mut S,
 ) -> Result<(), Failed>
-    requires { AreJobsOf (V.board board.now) jobs.old }
+    requires board { V.board board.now ≡ B.shown }
+    requires some { 0 < length slots.old }
+    requires few { length slots.old ≤ 64 }
     ensures written { OnOk result (Appends (S.held out.old) (S.held out.new)
         (picture_text (magic_of format) (pixel_text_of format) (V.board board.now))) }
     ensures prefix { GrowsByPrefix (S.held out.old) (S.held out.new)
@@ -202,28 +230,32 @@ fn put_by<R: Threads + Sync, V: BoardView + Sync, S: Sink, G: Gate>(
     push_all(head_of(format, width, height).as_bytes(), &mut piece);
     let mut slot = 0;
     for row in 0..tiles_along(height) {
-        make_ready(rt, workers, gate, board, jobs, row, slot);
-        put_job(format, board, row, &jobs[slot], &mut solid, &mut piece, out)?;
-        slot = next_slot(slot, jobs.len());
+        if slot == 0 {
+            draw_ahead(rt, workers, gate, slots, row);
+        }
+        let next = next_slot(slot, slots.len());
+        let band = slots[slot].get_mut();
+        band.draw(row);
+        put_drawn(format, board, row, band, &mut solid, &mut piece, out)?;
+        slot = next;
     }
     put_all(out, piece.as_slice())
 }
 
-/// Adds the text of a row of tiles that is drawn in a job to the piece, and writes the piece if it
-/// is full.
-fn put_job<V: BoardView, S: Sink>(
+/// Adds the text of a row of tiles that is drawn to the piece, and writes the piece if it is full.
+fn put_drawn<V: BoardView, S: Sink, B: Shown>(
     format: Format,
     board: &V,
     row: u32,
-    job: &BandJob<'_, V>,
+    drawn: &Band<'_, V, B>,
     solid: &mut SolidText,
     piece: &mut Piece,
     out: &mut S,
 ) -> Result<(), Failed>
     requires inside { row * 64 < (V.board board.now).height }
-    requires board { job.now.board ≡ V.board board.now }
-    requires row { job.now.row ≡ row }
-    requires drawn { job.now.drawn ≡ true }
+    requires board { V.board board.now ≡ B.shown }
+    requires row { drawn.now.row ≡ row }
+    requires drawn { drawn.now.drawn ≡ true }
     ensures before { OnOk result ((start : Option (List ℕ))
         → HasRows format (V.board board.now) start (S.held out.old) piece.old.items (row * 64)
         → HasRows format (V.board board.now) start (S.held out.new) piece.new.items
@@ -235,8 +267,8 @@ fn put_job<V: BoardView, S: Sink>(
     ensures cause { HasCause any_fault (S.faults out.old) (S.faults out.new) result }
 {
     let band = DrawnBand {
-        colors: job.colors(),
-        bytes: job.bytes(),
+        colors: drawn.colors(),
+        bytes: drawn.bytes(),
     };
     put_band(format, board, row, band, solid, piece, out)
 }

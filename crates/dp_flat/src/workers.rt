@@ -1,25 +1,41 @@
 //! Rows of tiles of a picture that are drawn at the same time by workers.
+//!
+//! Each row of tiles is drawn in a slot, which a lock keeps. What a slot holds is right by its type:
+//! it is of the board that the type names. So whoever takes the slot finds its row of tiles drawn,
+//! or draws it.
 
-ghost use Rattle.std.specs.Prelude.{◌≡◌, ◌+◌, ◌-◌, ◌*◌, ◌<◌, ◌≤◌, ℕ, true, length, IfOk};
-ghost use Rattle.std.specs.Prelude.{slice_index_or};
+ghost use Rattle.std.specs.Prelude.{◌≡◌, ◌+◌, ◌*◌, ◌<◌, ◌≤◌, true, length, vec_len};
+ghost use Rattle.std.specs.Prelude.{IfOk};
 ghost use Rattle.dp_pixels.specs.Tiles.{tiles_along};
+ghost use Rattle.dp_plain.specs.Board.{Board};
 ghost use Rattle.dp_flat.specs.Bands.{IsBand};
-ghost use Rattle.dp_flat.specs.Jobs.{AreDrawnFrom, AreFrom, AreJobsOf, DrawnBand};
 
 use crate::band::{BLACK, Rgb, draw_band, tiles_along};
 use crate::compose::depth_of;
 use crate::tone::BUFFER;
 use dp_blend::Pixel;
-use dp_par::{Job, par_each};
+use dp_par::par_take;
 use dp_plain::BoardView;
 use dp_wire::Gate;
 use std::alloc::{AllocError, Global};
-use std::marker::Model;
+use std::marker::{Brand, Model, PhantomData};
+use std::sync::Mutex;
 use std::thread::Threads;
 
-/// Memory for a row of tiles of a board's picture, which may be drawn in it.
+/// A type that names a board.
+pub(crate) trait Shown: Send + Sync {
+    ghost shown: { Board };
+}
+
+impl Shown for Brand {
+    ghost use Rattle.dp_plain.specs.Board.{empty_board};
+
+    ghost shown = { empty_board };
+}
+
+/// Memory for a row of tiles of the picture of the board that `B` names. It may be drawn in it.
 #[derive(Drop)]
-pub(crate) struct BandJob<'a, V: BoardView> {
+pub(crate) struct Band<'a, V: BoardView, B: Shown> {
     board: &'a V,
     depth: usize,
     row: u32,
@@ -27,36 +43,37 @@ pub(crate) struct BandJob<'a, V: BoardView> {
     memory: Vec<Pixel>,
     colors: Vec<Option<Rgb>>,
     bytes: Vec<Rgb>,
+    named: PhantomData<B>,
 }
 
-impl<'a, V: BoardView> Model for BandJob<'a, V> {
+impl<'a, V: BoardView, B: Shown> Model for Band<'a, V, B> {
+    ghost use Rattle.std.specs.Prelude.{◌≡◌};
     ghost use Rattle.dp_flat.specs.Jobs.{DrawnBand, HasBand};
 
     ghost Value = { DrawnBand };
 
     ghost view = { λ j. record {
-      board = V.board j.board.now;
       row = j.row;
       drawn = j.is_drawn;
       colors = j.colors.items;
       bytes = j.bytes.items;
     } };
 
-    ghost invariant = { λ j. HasBand (V.board j.board.now) j.depth j.row j.is_drawn
-        j.memory.items j.colors.items j.bytes.items };
+    ghost invariant = { λ j. (V.board j.board.now ≡ B.shown)
+        × HasBand B.shown j.depth j.row j.is_drawn j.memory.items j.colors.items j.bytes.items };
 }
 
-impl<'a, V: BoardView> BandJob<'a, V> {
+impl<'a, V: BoardView, B: Shown> Band<'a, V, B> {
     /// Memory in which nothing is drawn.
-    fn new(alloc: Global, board: &'a V) -> Result<BandJob<'a, V>, AllocError>
-        ensures { IfOk result (λ job. job.board ≡ V.board board.now) }
+    fn new(alloc: Global, board: &'a V) -> Result<Band<'a, V, B>, AllocError>
+        requires { V.board board.now ≡ B.shown }
     {
         let cols = tiles_along(board.width()) as usize;
         let depth = depth_of(board);
         let memory = vec![in alloc; Pixel::CLEAR; BUFFER * (depth + 1)]?;
         let colors = vec![in alloc; None; cols]?;
         let bytes = vec![in alloc; BLACK; BUFFER * cols]?;
-        Ok(BandJob {
+        Ok(Band {
             board,
             depth,
             row: 0,
@@ -64,28 +81,32 @@ impl<'a, V: BoardView> BandJob<'a, V> {
             memory,
             colors,
             bytes,
+            named: PhantomData,
         })
     }
 
-    /// Has it be for another row of tiles. Nothing is drawn in it then.
-    fn turn_to(&mut self, row: u32)
-        ensures board { self.new.board ≡ self.old.board }
+    /// Draws a row of tiles in it, if the board has it and it isn't drawn there.
+    pub(crate) fn draw(&mut self, row: u32)
         ensures row { self.new.row ≡ row }
+        ensures drawn { row * 64 < B.shown.height → self.new.drawn ≡ true }
     {
-        self.row = row;
-        self.is_drawn = false;
-    }
-
-    /// Draws its row of tiles, if the board has it.
-    fn draw(&mut self)
-        ensures board { self.new.board ≡ self.old.board }
-        ensures row { self.new.row ≡ self.old.row }
-        ensures drawn { self.old.row * 64 < self.old.board.height → self.new.drawn ≡ true }
-    {
-        if self.row as u64 * 64 >= self.board.height() as u64 {
+        if self.is_drawn && self.row == row {
             return;
         }
-        let BandJob {
+        self.row = row;
+        self.is_drawn = false;
+        if row as u64 * 64 < self.board.height() as u64 {
+            self.draw_anew();
+        }
+    }
+
+    /// Draws its row of tiles.
+    fn draw_anew(&mut self)
+        requires { self.old.row * 64 < B.shown.height }
+        ensures row { self.new.row ≡ self.old.row }
+        ensures drawn { self.new.drawn ≡ true }
+    {
+        let Band {
             board,
             depth,
             row,
@@ -93,6 +114,7 @@ impl<'a, V: BoardView> BandJob<'a, V> {
             memory,
             colors,
             bytes,
+            ..
         } = self;
         draw_band(*board, *depth, *row, memory, colors, bytes);
         *is_drawn = true;
@@ -101,7 +123,7 @@ impl<'a, V: BoardView> BandJob<'a, V> {
     /// The colours of the tiles of the row of tiles that is drawn in it.
     pub(crate) fn colors(&self) -> &[Option<Rgb>]
         ensures colors { result.now ≡ self.now.colors }
-        ensures count { length result.now ≡ tiles_along self.now.board.width }
+        ensures count { length result.now ≡ tiles_along B.shown.width }
     {
         &self.colors
     }
@@ -109,109 +131,63 @@ impl<'a, V: BoardView> BandJob<'a, V> {
     /// The bytes of these tiles.
     pub(crate) fn bytes(&self) -> &[Rgb]
         ensures bytes { result.now ≡ self.now.bytes }
-        ensures count { length result.now ≡ 4096 * tiles_along self.now.board.width }
+        ensures count { length result.now ≡ 4096 * tiles_along B.shown.width }
         ensures band { self.now.drawn ≡ true
-            → IsBand self.now.board self.now.row self.now.colors self.now.bytes }
+            → IsBand B.shown self.now.row self.now.colors self.now.bytes }
     {
         &self.bytes
     }
 }
 
-impl<'a, V: BoardView + Sync> Job for BandJob<'a, V> {
-    ghost use Rattle.std.specs.Prelude.{⊤};
-    ghost use Rattle.dp_flat.specs.Jobs.{IsDrawn};
+/// What a lock keeps: memory for a row of tiles.
+pub(crate) type Slot<'a, V, B> = Mutex<Band<'a, V, B>>;
 
-    ghost ready = { λ _. ⊤ };
-
-    ghost leaves = { IsDrawn };
-
-    fn run(&mut self) {
-        self.draw();
-    }
-}
-
-/// Memory for the rows of tiles that are drawn at the same time.
-#[tactic(auto, using(crate::proofs::Jobs::pushed))]
-pub(crate) fn make_jobs<'a, V: BoardView>(
+/// Slots for the rows of tiles that are drawn at the same time.
+pub(crate) fn make_slots<'a, V: BoardView, B: Shown>(
     alloc: Global,
     board: &'a V,
     count: u32,
-) -> Result<Vec<BandJob<'a, V>>, AllocError>
-    requires some { 1 ≤ count }
-    requires few { count ≤ 64 }
-    ensures { IfOk result (λ jobs. AreJobsOf (V.board board.now) jobs.items) }
+) -> Result<Vec<Slot<'a, V, B>>, AllocError>
+    requires { V.board board.now ≡ B.shown }
+    ensures { IfOk result (λ slots. vec_len slots ≡ count) }
 {
-    let mut jobs = Vec::with_capacity(alloc, count as usize)?;
+    let mut slots = Vec::with_capacity(alloc, count as usize)?;
     for _made in 0..count {
-        jobs.push(BandJob::new(alloc, board)?)?;
+        slots.push(Mutex::new(Band::new(alloc, board)?))?;
     }
-    Ok(jobs)
+    Ok(slots)
 }
 
-/// Has the jobs be for rows of tiles from one on.
-fn turn_jobs<V: BoardView>(jobs: &mut [BandJob<'_, V>], first: u32)
-    requires few { length jobs.old ≤ 64 }
-    requires first { first < 64 }
-    ensures count { length jobs.new ≡ length jobs.old }
-    ensures boards { (k : ℕ) (d : DrawnBand) → k < length jobs.old
-        → (slice_index_or jobs.new k d).board ≡ (slice_index_or jobs.old k d).board }
-    ensures rows { AreFrom first jobs.new }
-{
-    for k in 0..jobs.len() {
-        jobs[k].turn_to(first + k as u32);
-    }
-}
-
-/// Draws the rows of tiles from one on in the jobs, as far as the board goes.
-fn draw_jobs<R: Threads + Sync, V: BoardView + Sync, G: Gate>(
+/// Has workers draw the rows of tiles from one on in the slots.
+pub(crate) fn draw_ahead<R: Threads + Sync, V: BoardView + Sync, B: Shown, G: Gate>(
     rt: &R,
     workers: u32,
     gate: &G,
-    board: &V,
-    jobs: &mut [BandJob<'_, V>],
+    slots: &[Slot<'_, V, B>],
     first: u32,
 )
-    requires jobs { AreJobsOf (V.board board.now) jobs.old }
+    requires few { length slots.now ≤ 64 }
     requires first { first < 64 }
-    ensures count { length jobs.new ≡ length jobs.old }
-    ensures jobs { AreJobsOf (V.board board.now) jobs.new }
-    ensures drawn { AreDrawnFrom first (V.board board.now) jobs.new }
 {
-    let _ = board;
-    turn_jobs(jobs, first);
-    par_each(rt, workers, gate, jobs);
-}
-
-/// If the slot is the first one, has a row of tiles be drawn in its job. Those after it are drawn
-/// in the jobs after that. Else the row was drawn with that of the first slot.
-pub(crate) fn make_ready<R: Threads + Sync, V: BoardView + Sync, G: Gate>(
-    rt: &R,
-    workers: u32,
-    gate: &G,
-    board: &V,
-    jobs: &mut [BandJob<'_, V>],
-    row: u32,
-    slot: usize,
-)
-    requires jobs { AreJobsOf (V.board board.now) jobs.old }
-    requires row { row < 64 }
-    requires slot { slot ≤ row }
-    requires drawn { 0 < slot → AreDrawnFrom (row - slot) (V.board board.now) jobs.old }
-    ensures count { length jobs.new ≡ length jobs.old }
-    ensures jobs { AreJobsOf (V.board board.now) jobs.new }
-    ensures drawn { AreDrawnFrom (row - slot) (V.board board.now) jobs.new }
-{
-    if slot == 0 {
-        draw_jobs(rt, workers, gate, board, jobs, row - slot as u32);
-    }
+    par_take(
+        rt,
+        workers,
+        gate,
+        slots.len() as u32,
+        &|k: u32|
+            requires { (k < length slots.now) × (length slots.now ≤ 64) × (first < 64) }
+        {
+            if let Some(mut band) = slots[k as usize].try_lock() {
+                band.draw(first + k);
+            }
+        },
+    );
 }
 
 /// The slot after a slot, of `count` slots: the first one after the last.
 pub(crate) fn next_slot(slot: usize, count: usize) -> usize
     requires { slot < count }
     ensures inside { result < count }
-    ensures at_most { result ≤ slot + 1 }
-    ensures next { 0 < result → result ≡ slot + 1 }
 {
     if slot + 1 < count { slot + 1 } else { 0 }
 }

@@ -1,19 +1,18 @@
 -- Each row of tiles stands after those above, and the last piece ends the text.
-use Rattle.std.proofs.Common.{◌≡◌, ◌+◌, ◌-◌, ◌*◌, ◌∙◌, min, subst, arith}
+use Rattle.std.proofs.Common.{◌≡◌, ◌+◌, ◌*◌, ◌∙◌, min, subst, arith, length-set}
 use Rattle.dp_plain.specs.Picture.{head}
 use Rattle.dp_flat.specs.Bands.{HasRows}
-use Rattle.dp_flat.specs.Jobs.{AreDrawnFrom}
 use Rattle.dp_flat.specs.Texts.{magic_of, pixel_text_of}
 use Rattle.dp_flat.proofs.Prefixes.{last_written, last_cut}
 use Rattle.dp_flat.proofs.Rows.{text_all}
 use Rattle.dp_flat.proofs.picture.put_by.Goals as goal
 
-pub returns-in_err-put_job-clause-prefix : goal.returns-in_err-put_job-clause-prefix
-returns-in_err-put_job-clause-prefix g c =
+pub returns-in_err-put_drawn-clause-prefix : goal.returns-in_err-put_drawn-clause-prefix
+returns-in_err-put_drawn-clause-prefix g c =
     let board = g.V.BoardView.board c.args.board.now in
     let held = g.S.Sink.held in
     let here : min (c.loop-row.row * 64) board.height ≡ c.loop-row.row * 64 = omega arith in
-    c.in_err-put_job.ensures.prefix (held c.args.out.now)
+    c.in_err-put_drawn.ensures.prefix (held c.args.out.now)
     (subst (HasRows c.args.format board (held c.args.out.now) (held c.loop-row.out)
     c.loop-row.piece.items) here c.loop-row.invariant.before)
 
@@ -25,21 +24,16 @@ loop-row-preserved g c =
     let here : min (row * 64) board.height ≡ row * 64 = omega arith in
     let next : min (row * 64 + 64) board.height ≡ min ((row + 1) * 64) board.height =
     omega arith in
-    let slot = c.next_slot-slot.result in
+    let kept = length-set c.loop-row.slots c.loop-row.slot in
     record {
-      before = subst (HasRows c.args.format board (held c.args.out.now) (held c.put_job.new.out)
-          c.put_job.new.piece.items) next
-          (c.in_ok-put_job.ensures.before (held c.args.out.now)
+      before = subst (HasRows c.args.format board (held c.args.out.now) (held c.put_drawn.new.out)
+          c.put_drawn.new.piece.items) next
+          (c.in_ok-put_drawn.ensures.before (held c.args.out.now)
           (subst (HasRows c.args.format board (held c.args.out.now) (held c.loop-row.out)
           c.loop-row.piece.items) here c.loop-row.invariant.before));
-      kept = c.in_ok-put_job.ensures.cause.kept ∙ c.loop-row.invariant.kept;
-      jobs = c.make_ready.ensures.jobs;
-      slot = omega arith;
-      inside = omega arith;
-      drawn = λ some.
-          let after : slot ≡ c.loop-row.slot + 1 = c.next_slot-slot.ensures.next some in
-          let same : row - c.loop-row.slot ≡ row + 1 - slot = omega (arith, after) in
-          subst (λ k. AreDrawnFrom k board c.make_ready.new.jobs) same c.make_ready.ensures.drawn;
+      kept = c.in_ok-put_drawn.ensures.cause.kept ∙ c.loop-row.invariant.kept;
+      inside = omega (arith, kept, c.next_slot-next.ensures.inside);
+      few = omega (arith, kept, c.loop-row.invariant.few);
     }
 
 pub returns-clause-written : goal.returns-clause-written
