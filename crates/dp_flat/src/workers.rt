@@ -1,8 +1,7 @@
 //! Rows of tiles of a picture that are drawn at the same time by workers.
 //!
-//! Each row of tiles is drawn in a slot, which a lock keeps. What a slot holds is right by its type:
-//! it is of the board that the type names. So whoever takes the slot finds its row of tiles drawn,
-//! or draws it.
+//! Each row of tiles is drawn in a slot, which a lock keeps. What a slot holds is right by its
+//! type, which names the board. So who takes the slot finds its row of tiles drawn, or draws it.
 
 ghost use Rattle.std.specs.Prelude.{◌≡◌, ◌+◌, ◌*◌, ◌<◌, ◌≤◌, true, length, vec_len};
 ghost use Rattle.std.specs.Prelude.{IfOk};
