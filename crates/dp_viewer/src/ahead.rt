@@ -261,7 +261,8 @@ impl Behind {
 }
 
 /// Draws acts, if there are any, and meanwhile reads a batch of `count` entries. Another thread
-/// draws them, if one can be made.
+/// draws them, if one can be made. One that does nothing is started before it: the system puts the
+/// first thread that it starts where this one runs, and these two would take turns.
 fn read_beside<'a, R: Threads + Sync, I: Source, G: Gate, D: Ledger + Send, T: Ledger + Send>(
     crew: &'a Crew<'a, R, G>,
     input: &mut I,
@@ -277,10 +278,40 @@ fn read_beside<'a, R: Threads + Sync, I: Source, G: Gate, D: Ledger + Send, T: L
         (I.faults input.new) ahead.old ahead.new result }
     ensures later { I.faults input.old ≤ I.faults input.new }
 {
-    let alloc = crew.alloc;
     if behind.ready.as_slice().is_empty() {
-        return read_batch(alloc, input, ahead, count);
+        return read_batch(crew.alloc, input, ahead, count);
     }
+    let (_, batch) = join_mut(
+        crew.rt,
+        &mut || {},
+        &mut || -> Batch
+            ensures { (behind.exit.now.drawn ≡ true → behind.exit.now.board
+                ≡ fold draw behind.entry.now.board (drawn_among behind.entry.now.ready.items))
+                × EndsBatch (I.left input.entry.now) (I.left input.exit.now)
+                (I.faults input.entry.now) (I.faults input.exit.now) ahead.entry.now ahead.exit.now
+                result × (I.faults input.entry.now ≤ I.faults input.exit.now) }
+        { draw_and_read(crew, input, ahead, behind, count, draws, tiles) },
+    );
+    batch
+}
+
+/// Reads a batch of `count` entries, while another thread, if one can be made, draws acts.
+fn draw_and_read<'a, R: Threads + Sync, I: Source, G: Gate, D: Ledger + Send, T: Ledger + Send>(
+    crew: &'a Crew<'a, R, G>,
+    input: &mut I,
+    ahead: &mut Ahead,
+    behind: &mut Behind,
+    count: usize,
+    draws: &mut Steps<D>,
+    tiles: &mut Steps<T>,
+) -> Batch
+    ensures drawn { behind.new.drawn ≡ true → behind.new.board
+        ≡ fold draw behind.old.board (drawn_among behind.old.ready.items) }
+    ensures read { EndsBatch (I.left input.old) (I.left input.new) (I.faults input.old)
+        (I.faults input.new) ahead.old ahead.new result }
+    ensures later { I.faults input.old ≤ I.faults input.new }
+{
+    let alloc = crew.alloc;
     let (_, batch) = join_mut(
         crew.rt,
         &mut ||
