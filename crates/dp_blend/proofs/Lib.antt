@@ -1,5 +1,6 @@
 pub mod Canvas
 pub mod LaneLemmas
+mod Least
 pub mod Pixels
 pub mod Rects
 pub mod Products

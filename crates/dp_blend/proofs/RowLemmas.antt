@@ -1,10 +1,11 @@
 -- Rows whose places are changed one after the other.
 use Rattle.std.proofs.Common.{◌≡◌, ℕ, ◌+◌, ◌<◌, ◌≤◌, ◌≢◌, List, [], ◌∷◌, ◌++◌, length, get_or, set}
-use Rattle.std.proofs.Common.{take, suc, zero, refl, sym, ap, ◌∙◌, arith, add-one, get_or-set_other}
-use Rattle.std.proofs.lemmas.List.{take_all}
+use Rattle.std.proofs.Common.{take, drop, suc, zero, refl, sym, ap, ◌∙◌, arith, add-one, get_or-set_other}
+use Rattle.std.proofs.lemmas.List.{take_all, take-append-drop}
 use Rattle.dp_blend.specs.Color.{Channels, clear, fade}
 use Rattle.dp_blend.specs.Blending.{blend, masked, row_blended, row_filled, row_merged}
 use Rattle.dp_blend.specs.declared.modes.Mode.{Mode}
+use borrow.Rule.Slice.PartMut.{mid_of, put_mid}
 
 -- the row after f of each x and of the pixel at its place; past their end the row stays
 abbrev pub changed : {X : Type 0} → (X → Channels → Channels) → List X → List Channels
@@ -75,6 +76,40 @@ changed-last f xs row now k n x d e h i same before written =
     changed-all f xs row (set now n e) (n + 1) (omega arith)
     (changed-more f xs row now n x d e (omega arith) (omega arith) till written)
 
+-- the first places of a row are changed as in the whole
+changed-front : {X : Type 0} (f : X → Channels → Channels) (n : ℕ) (xs : List X)
+    (row : List Channels)
+    → changed f (take n xs) (take n row) ++ drop n row ≡ changed f (take n xs) row
+changed-front f zero xs row = refl
+changed-front f (suc n) [] row = take-append-drop (suc n) row
+changed-front f (suc n) (x ∷ xs) [] = refl
+changed-front f (suc n) (x ∷ xs) (d ∷ row) = ap (λ rest. f x d ∷ rest) (changed-front f n xs row)
+
+-- a part is changed as in the whole
+changed-part : {X : Type 0} (f : X → Channels → Channels) (a n : ℕ) (xs : List X)
+    (row : List Channels)
+    → a ≤ length xs → a ≤ length row
+    → put_mid a n (changed f (take a xs) row)
+    (changed f (mid_of a n xs) (mid_of a n (changed f (take a xs) row)))
+    ≡ changed f (take (a + n) xs) row
+changed-part f zero n xs row h i =
+    let e : 0 + n ≡ n = omega arith in
+    rw e (changed-front f n xs row)
+changed-part f (suc a) n [] row h i = absurd (omega arith)
+changed-part f (suc a) n (x ∷ xs) [] h i = absurd (omega arith)
+changed-part f (suc a) n (x ∷ xs) (d ∷ row) h i =
+    let e : suc a + n ≡ suc (a + n) = omega arith in
+    rw e (ap (λ rest. f x d ∷ rest) (changed-part f a n xs row (omega arith) (omega arith)))
+
+-- a row that is changed up to a is changed to m if the part between is changed
+changed-stretch : {X : Type 0} (f : X → Channels → Channels) (xs : List X)
+    (row now part : List Channels) (a n m : ℕ)
+    → a ≤ length xs → a ≤ length row → m ≡ a + n → now ≡ changed f (take a xs) row
+    → part ≡ changed f (mid_of a n xs) (mid_of a n now)
+    → put_mid a n now part ≡ changed f (take m xs) row
+changed-stretch f xs row now part a n m h i more before made =
+    rw (made, before, more) (changed-part f a n xs row h i)
+
 -- at each place stands what f gives there
 pub get_or-changed : {X : Type 0} (f : X → Channels → Channels) (xs : List X) (row : List Channels)
     (k : ℕ) (x : X) (d : Channels)
@@ -120,6 +155,16 @@ pub row_merged-places : (mode : Mode) (by : ℕ) (sources row now : List Channel
 row_merged-places mode by sources row now is same k s d h =
     rw (is, row_merged-is) (get_or-changed (λ s d. blend mode (fade s by) d) sources row k s d
     (omega arith) h)
+
+-- a row that is merged up to a is merged to m if the part between is merged
+pub merged-stretch : (mode : Mode) (by : ℕ) (xs row now part : List Channels) (a n m : ℕ)
+    → a ≤ length xs → a ≤ length row → m ≡ a + n
+    → now ≡ changed (λ s d. blend mode (fade s by) d) (take a xs) row
+    → part ≡ row_merged mode by (mid_of a n xs) (mid_of a n now)
+    → put_mid a n now part ≡ changed (λ s d. blend mode (fade s by) d) (take m xs) row
+merged-stretch mode by xs row now part a n m h i more before made =
+    changed-stretch (λ s d. blend mode (fade s by) d) xs row now part a n m h i more before
+    (made ∙ row_merged-is mode by (mid_of a n xs) (mid_of a n now))
 
 -- two parts of a row are merged like the whole
 pub row_merged-append : (mode : Mode) (by : ℕ) (xs ys a b : List Channels) → length xs ≡ length a

@@ -7,6 +7,7 @@
 
 mod blending;
 mod color;
+mod covering;
 mod kernels;
 mod lanes;
 mod laws;

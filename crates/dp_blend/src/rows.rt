@@ -13,6 +13,7 @@ ghost use Rattle.dp_blend.specs.Blending.{blend, is_between, masked, row_blended
 ghost use Rattle.dp_blend.specs.Blending.{row_merged};
 
 use crate::color::{ONE, Pixel};
+use crate::covering::cover;
 use crate::kernels::{
     Adding, Covering, Erasing, Faded, Fading, Fill, Kernel, Multiplying, Recoloring, Replacing,
     Seen, Source, Whole, blend_two, fill_two, merge_two,
@@ -100,10 +101,12 @@ pub fn row_merge(mode: Mode, by: u16, sources: &[Pixel], row: &mut [Pixel])
         slice_index_or row.new k d
         ≡ blend mode (fade (slice_index_or sources.now k s) by) (slice_index_or row.old k d) }
 {
-    if by == ONE {
-        merge_faded(mode, Whole, sources, row);
-    } else {
+    if by != ONE {
         merge_faded(mode, Faded { by }, sources, row);
+    } else if mode == Mode::Normal {
+        cover(sources, row);
+    } else {
+        merge_faded(mode, Whole, sources, row);
     }
 }
 
@@ -290,7 +293,7 @@ fn merge_faded<F: Fading>(mode: Mode, fading: F, sources: &[Pixel], row: &mut [P
 }
 
 /// `row_merge` in the kernel's mode: eight pixels at a time, and then the last ones.
-fn merge_by<K: Kernel, F: Fading>(fading: F, sources: &[Pixel], row: &mut [Pixel])
+pub(crate) fn merge_by<K: Kernel, F: Fading>(fading: F, sources: &[Pixel], row: &mut [Pixel])
     requires same_length { length sources.now ≡ length row.old }
     ensures value { row.new ≡ row_merged K.mode (F.by fading) sources.now row.old }
     ensures places { (k : ℕ) (s d : Channels) → k < length row.old →
