@@ -1,20 +1,23 @@
 -- A board that is drawn anew, from a savepoint on.
 use Rattle.std.proofs.Common.{◌≡◌, ℕ, ◌+◌, ◌-◌, ◌<◌, ◌≤◌, Bool, true, false, List, [], ◌∷◌, ◌++◌}
 use Rattle.std.proofs.Common.{length, take, drop, map, get_or, ap, sym, ◌∙◌, arith, refl, subst}
-use Rattle.std.proofs.Common.{length-append, Some}
+use Rattle.std.proofs.Common.{length-append, None, Some}
 use Rattle.std.specs.Prelude.{if◌then◌else◌, nat_lt, sum_by, slice_range, Option, unwrap_or}
-use Rattle.std.specs.Option.{option_to_list}
+use Rattle.std.specs.Prelude.{IfSome}
+use Rattle.std.specs.Option.{ForSome, option_to_list}
 use Rattle.std.specs.List.{fold, Contains}
 use Rattle.std.proofs.lemmas.Bool.{ltb-true}
 use Rattle.std.proofs.lemmas.List.{take-append-drop, drop-drop, drop-map, take_more, map-append}
-use Rattle.std.proofs.lemmas.List.{take-map, length-map, take_all, length-drop}
+use Rattle.std.proofs.lemmas.List.{take-map, length-map, take_all, length-drop, drop_more}
 use Rattle.std.proofs.lemmas.List.Concat.{flat_map-append}
 use Rattle.std.proofs.lemmas.List.Sums.{sum_by-append}
+use Rattle.std.proofs.lemmas.Grind.{fold-append}
 use Rattle.dp_board.specs.Commands.{command_of}
 use Rattle.dp_board.specs.Counts.{CountsFew}
 use Rattle.dp_board.specs.declared.act.Act.{Act}
 use Rattle.dp_board.specs.declared.act.UserAct.{UserAct}
 use Rattle.dp_board.specs.Laws.{depth_in}
+use Rattle.dp_board.specs.Moves.{flag_with}
 use Rattle.dp_board.specs.Strokes.{last_few, concerned, is_eligible}
 use Rattle.dp_board.specs.Table.{Table, moved_in, strokes_of}
 use Rattle.dp_board.proofs.StepLemmas.{moved-is}
@@ -114,6 +117,63 @@ CountsFew-part weight kept a b draws draws' draws'' tiles tiles' tiles'' le coun
       tiles_rise = omega (arith, counts.tiles_rise, same_tiles);
       few_tiles = omega (arith, counts.few_tiles, same_tiles, few.1);
     }
+
+-- the counters were as they are at the entry when these were drawn
+pub CountsFew-later : {Op : Type 0} → (weight : Op → ℕ) (ops : List Op)
+    (draws draws' draws'' tiles tiles' tiles'' : ℕ) → draws' ≡ draws → tiles' ≡ tiles
+    → CountsFew weight ops draws' draws'' tiles' tiles''
+    → CountsFew weight ops draws draws'' tiles tiles''
+CountsFew-later weight ops draws draws' draws'' tiles tiles' tiles'' same same_tiles counts =
+    subst (λ n. CountsFew weight ops n draws'' tiles tiles'') same
+    (subst (λ n. CountsFew weight ops draws' draws'' n tiles'') same_tiles counts)
+
+-- if the counters are as they were, few were drawn
+pub CountsFew-none : {Op : Type 0} → (weight : Op → ℕ) (ops : List Op)
+    (draws draws' tiles tiles' : ℕ) → draws' ≡ draws → tiles' ≡ tiles
+    → CountsFew weight ops draws draws' tiles tiles'
+CountsFew-none weight ops draws draws' tiles tiles' same same_tiles = record {
+  draws_rise = omega (arith, same);
+  few_draws = omega (arith, same);
+  tiles_rise = omega (arith, same_tiles);
+  few_tiles = omega (arith, same_tiles);
+}
+
+-- what holds of a value if there is one
+pub for-some : {A : Type 0} → (o : Option A) (P : A → Type 0) → IfSome o P → ForSome o P
+for-some None P holds = λ x some. let wrong : None ≡ Some x = some in cc
+for-some (Some y) P holds = λ x some. let same : y ≡ x = cc in subst P same holds
+
+-- what is drawn of all, if a part of them and then the rest were
+pub CountsFew-rest : {Op : Type 0} → (weight : Op → ℕ) (kept rest : List (KeptAct Op)) (at : ℕ)
+    (draws draws' draws'' tiles tiles' tiles'' : ℕ)
+    → LeavesFew weight kept 0 at draws draws' tiles tiles' → draws ≤ draws' → tiles ≤ tiles'
+    → rest ≡ drop at kept → CountsFew weight (commands_among rest) draws' draws'' tiles' tiles''
+    → CountsFew weight (commands_among kept) draws draws'' tiles tiles''
+CountsFew-rest weight kept rest at draws draws' draws'' tiles tiles' tiles'' left rise rise_tiles
+    rest_is counts =
+    let same = ap commands_among rest_is in
+    record {
+      draws_rise = omega (arith, rise, counts.draws_rise);
+      few_draws = omega (arith, left.few_draws, counts.few_draws, ap length same);
+      tiles_rise = omega (arith, rise_tiles, counts.tiles_rise);
+      few_tiles = omega (arith, left.few_tiles, counts.few_tiles, ap (sum_by weight) same);
+    }
+
+-- the next act is drawn, with the flag of a mark
+pub redraw-more : {B Op : Type 0} → (draw : B → Op → B) (kept : List (KeptAct Op)) (mark : Mark)
+    (i : ℕ) (k : KeptAct Op) (flag : Bool) (board board' : B) → i < length kept
+    → k ≡ get_or kept i k → flag ≡ flag_with mark.user mark.group mark.drawn k.join k.drawn
+    → board' ≡ fold draw board (command_of k.act.act flag)
+    → fold draw board' (drawn_among (map (marked mark) (drop (i + 1) kept)))
+    ≡ fold draw board (drawn_among (map (marked mark) (drop i kept)))
+redraw-more draw kept mark i k flag board board' within is flag_is made =
+    let rest = map (marked mark) (drop (i + 1) kept) in
+    let own = command_of k.act.act (flag_with mark.user mark.group mark.drawn k.join k.drawn) in
+    ap (λ b. fold draw b (drawn_among rest))
+    (made ∙ ap (λ drawn. fold draw board (command_of k.act.act drawn)) flag_is)
+    ∙ sym (fold-append draw board own (drawn_among rest))
+    ∙ ap (λ xs. fold draw board (drawn_among (map (marked mark) xs)))
+    (sym (drop_more kept i k within ∙ ap (λ j. j ∷ drop (i + 1) kept) (sym is)))
 
 -- the savepoint of a Point, if it has come to that
 pub saved-run : {B Op : Type 0} → (draw : B → Op → B) (kept : List (KeptAct Op)) (from old : B)

@@ -7,7 +7,6 @@ ghost use Rattle.dp_rollback.specs.Kept.{marked};
 use dp_board::{Join, UserAct};
 
 /// An act with what it joined and whether its command is drawn.
-#[derive(Drop)]
 pub struct KeptAct<Op> {
     /// The act.
     pub act: UserAct<Op>,
@@ -17,8 +16,20 @@ pub struct KeptAct<Op> {
     pub drawn: bool,
 }
 
+// It is written out, so that it is only called where an act is let go. A derived one would be
+// a part of each such function, and proved there.
+impl<Op: Drop> Drop for KeptAct<Op> {
+    fn drop(self) {
+        let KeptAct {
+            act: _,
+            join: _,
+            drawn: _,
+        } = self;
+    }
+}
+
 /// A group that moves, and whether its commands are drawn then.
-#[derive(Clone, Copy, Debug, PartialEq, Eq)]
+#[derive(Clone, Copy)]
 pub struct Mark {
     /// The user whose group it is, by context id.
     pub user: u8,

@@ -26,7 +26,9 @@ use crate::ready::Ready;
 use crate::redraw::{draw_act, draw_next};
 use crate::room::{add_act, let_go};
 use crate::run::Run;
-use crate::saves::{Save, copy_saves, depth_after, note_save, put_save, save_at, save_of};
+use crate::saves::{
+    Save, copy_saves, depth_after, push_save, put_save, save_at, save_last, save_of,
+};
 use dp_board::{Act, Board, Change, StrokeTable, UserAct, concerned, tables_follow};
 use dp_steps::Steps;
 use std::alloc::{AllocError, Global};
@@ -198,11 +200,11 @@ impl<B: Board> Rollback<B> {
             (record { user = user; act = act.now }) draws.old draws.new tiles.old tiles.new }
     {
         stroke_laws::<B::Op>();
+        self.make_room()?;
         let act = UserAct {
             user,
             act: copy_act::<B>(self.alloc, act)?,
         };
-        self.make_room()?;
         self.add(act, draws, tiles)
     }
 
@@ -256,15 +258,23 @@ impl<B: Board> Rollback<B> {
     {
         let join = self.table.join_of(&act);
         let drawn = is_draw(&act.act);
-        let save = self.saved_for(&act.act, draws, tiles)?;
-        note_save(&mut self.last, &save)?;
-        let strokes = self.table.next(self.alloc, &act)?;
-        draw_next(&mut self.board, &mut self.last, &act.act, draws, tiles)?;
         let depth = depth_after(self.depth, &act.act);
+        let next = KeptAct { act, join, drawn };
+        let strokes = self.table.next(self.alloc, &next.act)?;
+        let save = save_last(
+            self.alloc,
+            self.table.position(),
+            &self.board,
+            &mut self.last,
+            &next.act.act,
+            draws,
+            tiles,
+        )?;
+        draw_next(&mut self.board, &mut self.last, &next.act.act, draws, tiles)?;
         self.depth = depth;
         put_save(&mut self.saves, save, depth);
         self.table.put(strokes);
-        self.kept.push_reserved(KeptAct { act, join, drawn });
+        self.kept.push_reserved(next);
         let first = self.table.oldest();
         let_go(&mut self.base, &mut self.kept, first);
         Ok(change_by_draw(drawn))
@@ -299,11 +309,11 @@ impl<B: Board> Rollback<B> {
             (record { user = user; act = act.now }) draws.old draws.new tiles.old tiles.new }
     {
         stroke_laws::<B::Op>();
+        self.make_room()?;
         let act = UserAct {
             user,
             act: copy_act::<B>(self.alloc, act)?,
         };
-        self.make_room()?;
         self.made(act, draws, tiles)
     }
 
@@ -321,12 +331,13 @@ impl<B: Board> Rollback<B> {
     {
         let join = self.table.join_of(&act);
         let mark = mark_of(&self.table, &act);
-        let strokes = self.table.next(self.alloc, &act)?;
         let drawn = is_draw(&act.act);
         let depth = depth_after(self.depth, &act.act);
-        let Drawn { board, saves } = self.drawn(&act.act, mark, draws, tiles)?;
+        let act = KeptAct { act, join, drawn };
+        let strokes = self.table.next(self.alloc, &act.act)?;
+        let Drawn { board, saves } = self.drawn(&act.act.act, mark, draws, tiles)?;
         Ok(Ready {
-            act: KeptAct { act, join, drawn },
+            act,
             mark,
             strokes,
             depth,
@@ -378,8 +389,7 @@ impl<B: Board> Rollback<B> {
             Some(mark) => self.redrawn(mark, draws, tiles)?,
         };
         let save = self.saved_for(act, draws, tiles)?;
-        saves.reserve(1)?;
-        put_save(&mut saves, save, depth_after(self.depth, act));
+        push_save(&mut saves, save, depth_after(self.depth, act))?;
         Ok(Drawn { board, saves })
     }
 
@@ -392,8 +402,6 @@ impl<B: Board> Rollback<B> {
     ) -> Result<Option<Save<B>>, AllocError>
         ensures saved { IfOk result (λ save. option_to_list save
             ≡ save_of self.now.table.position self.now.board act.now) }
-        ensures board { IfOk result (λ made. ForSome made
-            (λ save. save.board ≡ self.now.board)) }
         ensures no_draw { draws.new ≡ draws.old }
         ensures no_tile { tiles.new ≡ tiles.old }
     {

@@ -1,6 +1,6 @@
 //! Savepoints of the points in reach.
 
-ghost use Rattle.std.specs.Prelude.{◌≡◌, ◌++◌, ◌<◌, IfOk, IfSome, unwrap_or};
+ghost use Rattle.std.specs.Prelude.{◌≡◌, ◌++◌, ◌<◌, IfOk, OnOk, OnErr, IfSome, unwrap_or};
 ghost use Rattle.std.specs.Prelude.{is_some};
 ghost use Rattle.std.specs.Option.{ForSome, option_to_list};
 ghost use Rattle.std.specs.Vec.{vec_len, vec_capacity};
@@ -82,7 +82,6 @@ pub(crate) fn save_of<B: Board, D: Ledger, T: Ledger>(
     requires { ForSome last.now (λ save. save.value ≡ board.now) }
     ensures saved { IfOk result
         (λ save. option_to_list save ≡ save_of position board.now act.now) }
-    ensures board { IfOk result (λ made. ForSome made (λ save. save.board ≡ board.now)) }
     ensures no_draw { draws.new ≡ draws.old }
     ensures no_tile { tiles.new ≡ tiles.old }
 {
@@ -95,19 +94,34 @@ pub(crate) fn save_of<B: Board, D: Ledger, T: Ledger>(
     })
 }
 
-/// Goes on with the board of a savepoint as the last one that was saved, if there is one.
-pub(crate) fn note_save<B: Drop>(
+/// The savepoint of an act that comes next, if it is a point. The board was saved as that last.
+pub(crate) fn save_last<B: Board, D: Ledger, T: Ledger>(
+    alloc: Global,
+    position: usize,
+    board: &B,
     last: &mut Option<Arc<B>>,
-    save: &Option<Save<B>>,
-) -> Result<(), AllocError>
-    ensures { (board : B) → ForSome save.now (λ made. made.board ≡ board)
-        → ForSome last.old (λ saved. saved.value ≡ board)
-        → ForSome last.new (λ saved. saved.value ≡ board) }
+    act: &Act<B::Op>,
+    draws: &mut Steps<D>,
+    tiles: &mut Steps<T>,
+) -> Result<Option<Save<B>>, AllocError>
+    requires { ForSome last.old (λ save. save.value ≡ board.now) }
+    ensures saved { IfOk result
+        (λ save. option_to_list save ≡ save_of position board.now act.now) }
+    ensures last { ForSome last.new (λ save. save.value ≡ board.now) }
+    ensures no_draw { draws.new ≡ draws.old }
+    ensures no_tile { tiles.new ≡ tiles.old }
 {
-    if let Some(save) = save {
-        *last = Some(save.board.clone()?);
+    match act {
+        Act::Point => {
+            let saved = save_board(alloc, board, last, draws, tiles)?;
+            *last = Some(saved.clone()?);
+            Ok(Some(Save {
+                point: position,
+                board: saved,
+            }))
+        }
+        _ => Ok(None),
     }
-    Ok(())
 }
 
 /// How many points are in reach at most after an act.
@@ -131,6 +145,25 @@ pub(crate) fn put_save<B: Drop>(saves: &mut Vec<Save<B>>, save: Option<Save<B>>,
     }
     let count = saves.len().saturating_sub(depth);
     drop_first(saves, count);
+}
+
+/// Adds a savepoint, if there is one, and keeps those of the last points alone.
+///
+/// # Errors
+///
+/// The savepoints are as they were.
+pub(crate) fn push_save<B: Drop>(
+    saves: &mut Vec<Save<B>>,
+    save: Option<Save<B>>,
+    depth: usize,
+) -> Result<(), AllocError>
+    ensures added { OnOk result
+        (saves.new.items ≡ last_few depth (saves.old.items ++ option_to_list save)) }
+    ensures err { OnErr result (saves.new.items ≡ saves.old.items) }
+{
+    saves.reserve(1)?;
+    put_save(saves, save, depth);
+    Ok(())
 }
 
 /// The savepoint of a point, if it has one.

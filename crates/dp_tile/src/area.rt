@@ -7,7 +7,8 @@ ghost use Rattle.dp_tile.specs.Tiles.{tile_of};
 
 use crate::painter::{TileChange, TilePainter};
 use crate::palette::Palette;
-use crate::row::{Row, own_slots};
+use crate::row::Row;
+use crate::shared::own;
 use crate::slot::Slot;
 use crate::tile::Tile;
 use dp_blend::Pixel;
@@ -18,7 +19,7 @@ use std::sync::ledger::Ledger;
 
 /// The cells of the columns from `left` on before `right`, and of the rows from `top` on before
 /// `bottom`.
-#[derive(Clone, Copy, Debug, PartialEq, Eq)]
+#[derive(Clone, Copy)]
 pub struct CellArea {
     pub left: u32,
     pub right: u32,
@@ -235,7 +236,7 @@ fn paint_slots<P: TilePainter, T: Ledger>(
     ensures few_tiles { tiles.new
         ≤ tiles.old + (length below.old + 1) * (work.now.right - work.now.left) }
 {
-    own_slots(work.alloc, &mut first.slots)?;
+    own(work.alloc, &mut first.slots)?;
     match Arc::get_mut(&mut first.slots) {
         None => Err(AllocError),
         Some(sole) => paint_columns(work, row, sole.as_mut_slice(), below, palette, tiles),

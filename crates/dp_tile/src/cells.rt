@@ -10,6 +10,7 @@ use crate::area::{CellArea, paint_area};
 use crate::painter::TilePainter;
 use crate::palette::Palette;
 use crate::row::Row;
+use crate::shared::{own, repeated};
 use crate::slot::Slot;
 use dp_steps::Steps;
 use std::alloc::{AllocError, Global};
@@ -20,17 +21,16 @@ use std::sync::ledger::Ledger;
 /// Rows of slots. It is seen as the list of the rows, each the list of its slots' pixels.
 #[derive(Drop)]
 pub(crate) struct Cells {
-    rows: Option<Arc<Vec<Row>>>,
+    rows: Arc<Vec<Row>>,
 }
 
 impl Model for Cells {
-    ghost use Rattle.std.specs.Prelude.{List, []};
-    ghost use Rattle.std.specs.Option.{option_map_or};
+    ghost use Rattle.std.specs.Prelude.{List};
     ghost use Rattle.dp_blend.specs.Color.{Channels};
 
     ghost Value = { List (List (List Channels)) };
 
-    ghost view = { λ c. option_map_or (λ rows. rows.value.items) c.rows [] };
+    ghost view = { λ c. c.rows.value.items };
 }
 
 impl Cells {
@@ -39,20 +39,15 @@ impl Cells {
         ensures { IfOk result (λ cells. cells ≡ replicate rows (replicate cols (tile_of clear))) }
     {
         let rows = Arc::new(alloc, clear_rows(alloc, cols, rows)?)?;
-        Ok(Cells { rows: Some(rows) })
+        Ok(Cells { rows })
     }
 
     // Another handle on the rows. It costs the same whatever their number.
     pub(crate) fn share(&self) -> Result<Cells, AllocError>
         ensures { IfOk result (λ cells. cells ≡ self.now) }
     {
-        match &self.rows {
-            None => Ok(Cells { rows: None }),
-            Some(rows) => {
-                let rows = rows.clone()?;
-                Ok(Cells { rows: Some(rows) })
-            }
-        }
+        let rows = self.rows.clone()?;
+        Ok(Cells { rows })
     }
 
     // The slot at a column and a row.
@@ -62,28 +57,8 @@ impl Cells {
         ensures { result.now
             ≡ slice_index_or (slice_index_or self.now row []) col (tile_of clear) }
     {
-        let rows = self.rows();
+        let rows = self.rows.as_slice();
         rows[row].at(col)
-    }
-
-    // All the rows.
-    fn rows(&self) -> &[Row]
-        ensures { result.now ≡ self.now }
-    {
-        match &self.rows {
-            None => &[],
-            Some(rows) => rows.as_slice(),
-        }
-    }
-
-    // Makes the list of the rows this grid's alone: a copy, if others have it too.
-    fn own(&mut self, alloc: Global) -> Result<(), AllocError>
-        ensures { self.new ≡ self.old }
-    {
-        match &mut self.rows {
-            None => Ok(()),
-            Some(rows) => own_rows(alloc, rows),
-        }
     }
 
     // Paints the tile at a column and a row.
@@ -112,13 +87,10 @@ impl Cells {
             (P.painted painter.now col row
             (slice_index_or (slice_index_or self.old row []) col (tile_of clear)))) }
     {
-        self.own(alloc)?;
-        match &mut self.rows {
-            None => Ok(()),
-            Some(rows) => match Arc::get_mut(rows) {
-                None => Err(AllocError),
-                Some(sole) => sole[row as usize].paint(alloc, col, row, painter, palette, tiles),
-            },
+        own(alloc, &mut self.rows)?;
+        match Arc::get_mut(&mut self.rows) {
+            None => Err(AllocError),
+            Some(sole) => sole[row as usize].paint(alloc, col, row, painter, palette, tiles),
         }
     }
 
@@ -144,13 +116,10 @@ impl Cells {
         ensures few_tiles { tiles.new
             ≤ tiles.old + (area.bottom - area.top) * (area.right - area.left) }
     {
-        self.own(alloc)?;
-        match &mut self.rows {
-            None => Ok(()),
-            Some(rows) => match Arc::get_mut(rows) {
-                None => Err(AllocError),
-                Some(sole) => paint_area(alloc, area, painter, sole.as_mut_slice(), palette, tiles),
-            },
+        own(alloc, &mut self.rows)?;
+        match Arc::get_mut(&mut self.rows) {
+            None => Err(AllocError),
+            Some(sole) => paint_area(alloc, area, painter, sole.as_mut_slice(), palette, tiles),
         }
     }
 
@@ -167,13 +136,10 @@ impl Cells {
         ensures written { OnOk result (self.new ≡ with_cell_in_rows self.old col row slot) }
         ensures err { OnErr result (self.new ≡ self.old) }
     {
-        self.own(alloc)?;
-        match &mut self.rows {
-            None => Ok(()),
-            Some(rows) => match Arc::get_mut(rows) {
-                None => Err(AllocError),
-                Some(sole) => sole[row].put(alloc, col, slot),
-            },
+        own(alloc, &mut self.rows)?;
+        match Arc::get_mut(&mut self.rows) {
+            None => Err(AllocError),
+            Some(sole) => sole[row].put(alloc, col, slot),
         }
     }
 }
@@ -183,35 +149,5 @@ fn clear_rows(alloc: Global, cols: usize, count: usize) -> Result<Vec<Row>, Allo
     ensures { IfOk result (λ rows.
         rows.items ≡ replicate count (replicate cols (tile_of clear))) }
 {
-    let row = Row::clear(alloc, cols)?;
-    let mut rows = Vec::with_capacity(alloc, count)?;
-    for _made in 0..count {
-        rows.push(row.share()?)?;
-    }
-    Ok(rows)
-}
-
-// Rows that have the same slots.
-fn share_rows(alloc: Global, rows: &[Row]) -> Result<Vec<Row>, AllocError>
-    ensures { IfOk result (λ copies. copies.items ≡ rows.now) }
-{
-    let mut copies = Vec::with_capacity(alloc, rows.len())?;
-    for row in rows {
-        copies.push(row.share()?)?;
-    }
-    Ok(copies)
-}
-
-// Makes the rows the caller's alone: a copy of the list, if others have it too.
-fn own_rows(alloc: Global, rows: &mut Arc<Vec<Row>>) -> Result<(), AllocError>
-    ensures { rows.new.value.items ≡ rows.old.value.items }
-{
-    match Arc::get_mut(rows) {
-        Some(_sole) => {}
-        None => {
-            let copies = share_rows(alloc, rows)?;
-            *rows = Arc::new(alloc, copies)?;
-        }
-    }
-    Ok(())
+    repeated(alloc, count, &Row::clear(alloc, cols)?)
 }

@@ -24,13 +24,26 @@ use std::sync::ledger::Ledger;
 
 /// Tiles in at most 64 columns and 64 rows. Grids that were shared have their tiles in common, each
 /// until one of them is written to. A grid is seen as its sides and the pixels of its cells.
-#[derive(Drop)]
 pub struct Grid {
     cols: u32,
     rows: u32,
     cells: Cells,
     alloc: Global,
     palette: Palette,
+}
+
+// It is written out, so that it is only called where a grid is let go. A derived one would be
+// a part of each such function, and proved there.
+impl Drop for Grid {
+    fn drop(self) {
+        let Grid {
+            cols: _,
+            rows: _,
+            cells: _,
+            alloc: _,
+            palette: _,
+        } = self;
+    }
 }
 
 impl Model for Grid {

@@ -9,6 +9,7 @@ mod laws;
 mod painter;
 mod palette;
 mod row;
+mod shared;
 mod slot;
 mod tile;
 

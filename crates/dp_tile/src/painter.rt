@@ -7,7 +7,7 @@ ghost use Rattle.dp_tile.specs.Painters.{KnownChange};
 use dp_blend::Pixel;
 
 /// What is known of a change of a tile before it is done.
-#[derive(Clone, Copy, Debug, PartialEq, Eq)]
+#[derive(Clone, Copy)]
 pub enum TileChange {
     /// All its pixels stay.
     Stays,

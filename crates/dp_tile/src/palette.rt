@@ -4,6 +4,7 @@ ghost use Rattle.std.specs.Prelude.{◌≡◌, ◌+◌, ◌≤◌, [], replicate
 ghost use Rattle.dp_tile.specs.Tiles.{tile_of, tiles_for};
 
 use crate::row::Row;
+use crate::shared::Shareable;
 use crate::slot::Slot;
 use crate::tile::Tile;
 use dp_blend::Pixel;
@@ -79,6 +80,14 @@ impl Palette {
         }
         let tile = Tile::solid(self.alloc, p, tiles)?;
         let slot = Slot::of(self.alloc, tile)?;
+        self.keep_slot(p, slot)
+    }
+
+    // Keeps a slot of this colour, and gives one of the same tile.
+    fn keep_slot(&mut self, p: Pixel, slot: Slot) -> Result<Slot, AllocError>
+        requires { slot ≡ tile_of p }
+        ensures { IfOk result (λ slot. slot ≡ tile_of p) }
+    {
         let other = slot.share()?;
         if self.slots.len() >= KEPT {
             self.slots.clear();
@@ -106,6 +115,14 @@ impl Palette {
         }
         let slot = self.slot(p, tiles)?;
         let row = Row::solid(self.alloc, count, &slot)?;
+        self.keep_row(p, count, row)
+    }
+
+    // Keeps a row of so many slots of this colour, and gives one of the same slots.
+    fn keep_row(&mut self, p: Pixel, count: usize, row: Row) -> Result<Row, AllocError>
+        requires { row ≡ replicate count (tile_of p) }
+        ensures { IfOk result (λ row. row ≡ replicate count (tile_of p)) }
+    {
         let other = row.share()?;
         if self.rows.len() >= KEPT {
             self.rows.clear();

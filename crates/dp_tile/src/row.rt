@@ -7,6 +7,7 @@ ghost use Rattle.dp_tile.specs.Tiles.{tile_of, tiles_for};
 
 use crate::painter::TilePainter;
 use crate::palette::Palette;
+use crate::shared::{Shareable, own, repeated};
 use crate::slot::Slot;
 use dp_blend::Pixel;
 use dp_steps::Steps;
@@ -30,6 +31,13 @@ impl Model for Row {
     ghost view = { λ r. r.slots.value.items };
 }
 
+impl Shareable for Row {
+    fn share(&self) -> Result<Row, AllocError> {
+        let slots = self.slots.clone()?;
+        Ok(Row { slots })
+    }
+}
+
 impl Row {
     // `count` slots without tiles.
     pub(crate) fn clear(alloc: Global, count: usize) -> Result<Row, AllocError>
@@ -42,7 +50,7 @@ impl Row {
     pub(crate) fn solid(alloc: Global, count: usize, slot: &Slot) -> Result<Row, AllocError>
         ensures { IfOk result (λ row. row ≡ replicate count slot.now) }
     {
-        let slots = Arc::new(alloc, solid_slots(alloc, count, slot)?)?;
+        let slots = Arc::new(alloc, repeated(alloc, count, slot)?)?;
         Ok(Row { slots })
     }
 
@@ -65,14 +73,6 @@ impl Row {
             }
         }
         Some(color)
-    }
-
-    // Another handle on the slots.
-    pub(crate) fn share(&self) -> Result<Row, AllocError>
-        ensures { IfOk result (λ row. row ≡ self.now) }
-    {
-        let slots = self.slots.clone()?;
-        Ok(Row { slots })
     }
 
     // The slot at a column.
@@ -107,7 +107,7 @@ impl Row {
         ensures few_shown { OnOk result (tiles.new ≤ tiles.old + tiles_for
             (P.painted painter.now col row (slice_index_or self.old col (tile_of clear)))) }
     {
-        own_slots(alloc, &mut self.slots)?;
+        own(alloc, &mut self.slots)?;
         match Arc::get_mut(&mut self.slots) {
             None => Err(AllocError),
             Some(sole) => sole[col as usize].paint(col, row, painter, palette, tiles),
@@ -120,7 +120,7 @@ impl Row {
         ensures written { OnOk result (self.new ≡ slice_set self.old col slot) }
         ensures err { OnErr result (self.new ≡ self.old) }
     {
-        own_slots(alloc, &mut self.slots)?;
+        own(alloc, &mut self.slots)?;
         match Arc::get_mut(&mut self.slots) {
             None => Err(AllocError),
             Some(sole) => {
@@ -129,41 +129,4 @@ impl Row {
             }
         }
     }
-}
-
-// `count` slots that have the same tile.
-fn solid_slots(alloc: Global, count: usize, slot: &Slot) -> Result<Vec<Slot>, AllocError>
-    ensures { IfOk result (λ slots. slots.items ≡ replicate count slot.now) }
-{
-    let mut slots = Vec::with_capacity(alloc, count)?;
-    for _made in 0..count {
-        slots.push(slot.share()?)?;
-    }
-    Ok(slots)
-}
-
-// Slots that have the same tiles.
-fn share_slots(alloc: Global, slots: &[Slot]) -> Result<Vec<Slot>, AllocError>
-    ensures { IfOk result (λ copies. copies.items ≡ slots.now) }
-{
-    let mut copies = Vec::with_capacity(alloc, slots.len())?;
-    for slot in slots {
-        copies.push(slot.share()?)?;
-    }
-    Ok(copies)
-}
-
-// Makes the slots the caller's alone: a copy of the list, if others have it too.
-#[inline(never)]
-pub(crate) fn own_slots(alloc: Global, slots: &mut Arc<Vec<Slot>>) -> Result<(), AllocError>
-    ensures { slots.new.value.items ≡ slots.old.value.items }
-{
-    match Arc::get_mut(slots) {
-        Some(_sole) => {}
-        None => {
-            let copies = share_slots(alloc, slots)?;
-            *slots = Arc::new(alloc, copies)?;
-        }
-    }
-    Ok(())
 }

@@ -9,6 +9,7 @@ ghost use Rattle.dp_tile.specs.Tiles.{IsOfColor, tile_of, tiles_for};
 
 use crate::painter::{TileChange, TilePainter};
 use crate::palette::Palette;
+use crate::shared::Shareable;
 use crate::tile::{Tile, color_of, solid_pixels};
 use dp_blend::{Pixel, Stretch};
 use dp_steps::Steps;
@@ -18,9 +19,16 @@ use std::sync::Arc;
 use std::sync::ledger::Ledger;
 
 /// A tile, or none if all its pixels are clear. It is seen as the tile's pixels.
-#[derive(Drop)]
 pub(crate) struct Slot {
     pub tile: Option<Arc<Tile>>,
+}
+
+// It is written out, so that it is only called where a slot is let go. A derived one would be
+// a part of each such function, and proved there.
+impl Drop for Slot {
+    fn drop(self) {
+        let Slot { tile: _ } = self;
+    }
 }
 
 impl Model for Slot {
@@ -32,6 +40,18 @@ impl Model for Slot {
     ghost Value = { List Channels };
 
     ghost view = { λ s. option_map_or (λ t. t.value) s.tile (tile_of clear) };
+}
+
+impl Shareable for Slot {
+    fn share(&self) -> Result<Slot, AllocError> {
+        match &self.tile {
+            None => Ok(Slot { tile: None }),
+            Some(tile) => {
+                let tile = tile.clone()?;
+                Ok(Slot { tile: Some(tile) })
+            }
+        }
+    }
 }
 
 impl Slot {
@@ -49,19 +69,6 @@ impl Slot {
         tile.known();
         let tile = Arc::new(alloc, tile)?;
         Ok(Slot { tile: Some(tile) })
-    }
-
-    // A slot that has the same tile.
-    pub(crate) fn share(&self) -> Result<Slot, AllocError>
-        ensures { IfOk result (λ slot. slot ≡ self.now) }
-    {
-        match &self.tile {
-            None => Ok(Slot { tile: None }),
-            Some(tile) => {
-                let tile = tile.clone()?;
-                Ok(Slot { tile: Some(tile) })
-            }
-        }
     }
 
     // A slot has 4096 pixels.

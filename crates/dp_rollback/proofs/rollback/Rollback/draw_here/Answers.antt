@@ -6,39 +6,16 @@ use Rattle.dp_board.specs.Commands.{command_of}
 use Rattle.dp_board.specs.declared.act.Change.TheVariants.{Drew, Nothing}
 use Rattle.dp_board.specs.Table.{oldest_in, table_with, next_strokes, joined_in}
 use Rattle.std.specs.Prelude.{unwrap_or}
-use Rattle.std.specs.Option.{ForSome, option_to_list}
+use Rattle.std.specs.Option.{option_to_list}
 use Rattle.std.specs.Vec.{vec_len}
 use Rattle.dp_board.specs.Laws.{depth_in}
 use Rattle.dp_board.specs.Strokes.{last_few}
 use Rattle.dp_rollback.specs.Rollback.{KeepsReach, points_of}
 use Rattle.dp_rollback.specs.Moves.{next_here, kept_in, save_of, saves_after}
 use Rattle.dp_rollback.proofs.ReadyLemmas.{IsNext-here, put-here}
+use Rattle.dp_rollback.proofs.RunLemmas.{CountsFew-later, CountsFew-none}
 use Rattle.dp_rollback.proofs.StandLemmas.{KeepsReach-next, depth-next}
 use Rattle.dp_rollback.proofs.rollback.Rollback.draw_here.Goals as goal
-
-pub invariant_of-self : goal.invariant_of-self
-invariant_of-self g c = (
-  c.self.invariant.0,
-  c.note_save.ensures c.self.inside.board (subst (λ r. ForSome c.in_ok-save.save
-      (λ save. save.board ≡ r.board)) (sym c.self.view_is) c.in_ok-save.ensures.board)
-      c.self.invariant.1,
-  c.self.invariant.2,
-)
-
-pub invariant_of-self-in_err-strokes : goal.invariant_of-self-in_err-strokes
-invariant_of-self-in_err-strokes g c = (
-  c.self.invariant.0,
-  c.note_save.ensures c.self.inside.board (subst (λ r. ForSome c.in_ok-save.save
-      (λ save. save.board ≡ r.board)) (sym c.self.view_is) c.in_ok-save.ensures.board)
-      c.self.invariant.1,
-  c.self.invariant.2,
-)
-
-pub draw_next-requires : goal.draw_next-requires
-draw_next-requires g c =
-    c.note_save.ensures c.self.inside.board (subst (λ r. ForSome c.in_ok-save.save
-    (λ save. save.board ≡ r.board)) (sym c.self.view_is) c.in_ok-save.ensures.board)
-    c.self.invariant.1
 
 pub invariant_of-self-2 : goal.invariant_of-self-2
 invariant_of-self-2 g c =
@@ -52,7 +29,7 @@ invariant_of-self-2 g c =
     ∙ ap (λ n. last_few n (old.saves.items ++ option_to_list c.in_ok-save.save)) depth
     ∙ ap (λ xs. last_few (unwrap_or (depth_in a.act) old.table.window.depth)
     (old.saves.items ++ xs)) (c.in_ok-save.ensures.saved
-    ∙ ap (λ r. save_of r.table.position r.board a.act) (sym is)) in (
+    ∙ ap (λ n. save_of n old.board a.act) c.position.ensures) in (
       depth ∙ depth-next old.table.position a.act old.table.window
           ∙ sym (ap (λ t. t.window.depth) table),
       c.in_ok-draw_next.ensures.last,
@@ -84,7 +61,7 @@ returns-clause-added g c =
     ∙ ap (λ n. last_few n (old.saves.items ++ option_to_list c.in_ok-save.save)) depth
     ∙ ap (λ xs. last_few (unwrap_or (depth_in a.act) old.table.window.depth)
     (old.saves.items ++ xs)) (c.in_ok-save.ensures.saved
-    ∙ ap (λ r. save_of r.table.position r.board a.act) (sym is)) in
+    ∙ ap (λ n. save_of n old.board a.act) c.position.ensures) in
     let first = c.oldest-first.ensures.value ∙ ap oldest_in table in
     let place = oldest_in (table_with (next_strokes old.table a) old.table) in
     record {
@@ -115,3 +92,18 @@ returns-clause-added g c =
       tells = c.change_by_draw.ensures
           ∙ ap (λ d. if d then Drew else Nothing) c.is_draw-drawn.ensures;
     }
+
+pub returns-in_err-save-clause-counts : goal.returns-in_err-save-clause-counts
+returns-in_err-save-clause-counts g c =
+    CountsFew-none g.B.Board.weight _ _ _ _ _ c.save_last.ensures.no_draw
+    c.save_last.ensures.no_tile
+
+pub returns-in_err-draw_next-clause-counts : goal.returns-in_err-draw_next-clause-counts
+returns-in_err-draw_next-clause-counts g c =
+    CountsFew-later g.B.Board.weight _ _ _ _ _ _ _ c.save_last.ensures.no_draw
+    c.save_last.ensures.no_tile c.draw_next.ensures.counts
+
+pub returns-clause-counts : goal.returns-clause-counts
+returns-clause-counts g c =
+    CountsFew-later g.B.Board.weight _ _ _ _ _ _ _ c.save_last.ensures.no_draw
+    c.save_last.ensures.no_tile c.draw_next.ensures.counts

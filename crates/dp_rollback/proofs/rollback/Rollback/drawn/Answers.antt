@@ -1,4 +1,4 @@
-use Rattle.std.proofs.Common.{◌∙◌, ap, subst, sym}
+use Rattle.std.proofs.Common.{◌∙◌, ap, refl, subst, sym}
 use Rattle.dp_rollback.specs.Moves.{IsDrawnFor, save_of, saves_after}
 use Rattle.dp_rollback.proofs.RunLemmas.{saves-made}
 use Rattle.dp_rollback.proofs.rollback.Rollback.drawn.Goals as goal
@@ -31,7 +31,7 @@ returns-clause-made g c =
       old_saves = old.saves.items;
       drawn = drawn;
       saves_are = saves-made inside.table act r.board old.saves.items _ _ c.in_ok-save.save _ _
-          c.put_save.ensures c.depth_after.ensures c.self.invariant.0 c.reserve.ensures.items
+          c.in_ok-push_save.ensures.added c.depth_after.ensures c.self.invariant.0 refl
           (c.in_ok-save.ensures.saved
           ∙ ap (λ o. save_of o.table.position r.board act) (sym c.self.view_is))
           ∙ ap (λ o. saves_after o.table r.board act old.saves.items) c.self.view_is;

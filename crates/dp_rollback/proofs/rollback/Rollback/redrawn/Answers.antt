@@ -34,6 +34,17 @@ returns-clause-counts g c =
     CountsFew-from g.B.Board.weight r mark _ c.args.draws.now _ _ c.args.tiles.now _ _ kept_is
     c.share.ensures.no_draw c.share.ensures.no_tile c.finish.ensures.counts
 
+pub returns-in_err-board-clause-counts : goal.returns-in_err-board-clause-counts
+returns-in_err-board-clause-counts g c =
+    let inside = c.self.inside in
+    let r = c.args.self.now in
+    let mark = c.args.mark in
+    let kept_is = slice-from c.deref-3.result.now inside.kept.items (mark.group - inside.base)
+    (mark.group - inside.base) c.deref-3.ensures.value refl
+    ∙ ap (λ o. drop (mark.group - o.base) o.kept) c.self.view_is in
+    CountsFew-from g.B.Board.weight r mark _ c.args.draws.now _ _ c.args.tiles.now _ _ kept_is
+    c.share.ensures.no_draw c.share.ensures.no_tile c.finish.ensures.counts
+
 pub unreachable-requires : goal.unreachable-requires
 unreachable-requires g c =
     let group = c.args.mark.group in

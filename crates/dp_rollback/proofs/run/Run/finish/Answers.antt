@@ -1,8 +1,8 @@
-use Rattle.std.proofs.Common.{◌-◌, ◌∙◌, ap, arith, drop, length, map}
+use Rattle.std.proofs.Common.{◌-◌, ◌∙◌, ap, arith, drop, length, map, refl}
 use Rattle.std.specs.List.{fold}
 use Rattle.std.proofs.lemmas.List.{length-drop, take_all}
 use Rattle.dp_rollback.specs.Kept.{marked, drawn_among}
-use Rattle.dp_rollback.proofs.RunLemmas.{run-rest}
+use Rattle.dp_rollback.proofs.RunLemmas.{run-rest, slice-from, CountsFew-rest}
 use Rattle.dp_rollback.proofs.run.Run.finish.Goals as goal
 
 pub returns-clause-redrawn : goal.returns-clause-redrawn
@@ -22,3 +22,25 @@ returns-clause-redrawn g c = λ from is.
           ∙ run-rest draw kept c.args.mark from run (saves.run from is);
       saves_are = saves.saves from is;
     }
+
+pub returns-in_err-redraw-clause-counts : goal.returns-in_err-redraw-clause-counts
+returns-in_err-redraw-clause-counts g c =
+    let kept = c.args.kept.now in
+    let run = c.saves.new.self in
+    let rest = c.self.inside in
+    let saves = c.in_ok-saves.ensures in
+    CountsFew-rest g.B.Board.weight kept _ (run.at - run.start) c.args.draws.now _ _
+    c.args.tiles.now _ _ saves.left saves.counts.draws_rise saves.counts.tiles_rise
+    (slice-from kept kept (rest.at - rest.start) (run.at - run.start) refl
+    (ap (λ r. r.at - r.start) c.self.view_is)) c.redraw.ensures.counts
+
+pub returns-clause-counts : goal.returns-clause-counts
+returns-clause-counts g c =
+    let kept = c.args.kept.now in
+    let run = c.saves.new.self in
+    let rest = c.self.inside in
+    let saves = c.in_ok-saves.ensures in
+    CountsFew-rest g.B.Board.weight kept _ (run.at - run.start) c.args.draws.now _ _
+    c.args.tiles.now _ _ saves.left saves.counts.draws_rise saves.counts.tiles_rise
+    (slice-from kept kept (rest.at - rest.start) (run.at - run.start) refl
+    (ap (λ r. r.at - r.start) c.self.view_is)) c.redraw.ensures.counts
