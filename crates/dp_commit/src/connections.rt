@@ -14,7 +14,6 @@ use dp_history::name_text;
 use std::alloc::{AllocError, Global};
 
 /// Who is there: the connections of a session, and what is noted beside them.
-#[derive(Drop)]
 pub struct Roster {
     pub connections: Vec<Connection>,
     /// For each connection, whether it is flagged as quiet.
@@ -23,6 +22,20 @@ pub struct Roster {
     pub present: [bool; 256],
     /// For each id, the event of the journal by which its user joined last.
     pub opens: [u32; 256],
+}
+
+// It is written out, so that it is only called where a roster is let go.
+impl Drop for Roster {
+    fn drop(self) {
+        let Roster {
+            connections,
+            quiet,
+            present: _,
+            opens: _,
+        } = self;
+        drop(connections);
+        drop(quiet);
+    }
 }
 
 /// The connection of a number, if it was given out.

@@ -3,6 +3,7 @@
 #![tactic(auto)]
 
 mod connections;
+mod handing;
 mod keeping;
 mod live;
 mod opening;
@@ -12,6 +13,7 @@ mod sending;
 mod supply;
 
 pub use connections::{Roster, connection, is_named, next_open, open_connection};
+pub use handing::{after_done, if_given, with_ahead};
 pub use keeping::{Made, keep_beside};
 pub use live::LiveEpoch;
 pub use room::reserve;

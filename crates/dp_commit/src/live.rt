@@ -24,7 +24,6 @@ use dp_messages::Entry;
 use std::alloc::{AllocError, Global};
 
 /// The live epoch: its history so far, and what was made of that.
-#[derive(Drop)]
 pub struct LiveEpoch {
     pub number: u32,
     pub history: Vec<HistoryItem>,
@@ -32,6 +31,22 @@ pub struct LiveEpoch {
     pub frames: HistoryFrames,
     /// The rights after the history.
     pub rights: Rights,
+}
+
+// It is written out, so that it is only called where an epoch is let go. A derived one would be
+// proved again there, with all that it holds.
+impl Drop for LiveEpoch {
+    fn drop(self) {
+        let LiveEpoch {
+            number: _,
+            history,
+            frames,
+            rights,
+        } = self;
+        drop(history);
+        drop(frames);
+        drop(rights);
+    }
 }
 
 /// Notes the entry of a message that the user says.

@@ -13,7 +13,6 @@ use dp_msg_meta::Control;
 use std::alloc::{AllocError, Global};
 
 /// A reset that is being sent.
-#[derive(Drop)]
 pub struct Sending {
     /// The connection that sends it, if one does.
     pub owner: Option<u32>,
@@ -23,6 +22,19 @@ pub struct Sending {
     pub parts: Vec<u32>,
     /// How many bytes the payloads of the parts have.
     pub part_bytes: u64,
+}
+
+// It is written out, so that it is only called where a reset is let go.
+impl Drop for Sending {
+    fn drop(self) {
+        let Sending {
+            owner: _,
+            place: _,
+            parts,
+            part_bytes: _,
+        } = self;
+        drop(parts);
+    }
 }
 
 /// Whether the connection is the one that sends the reset, if one does.

@@ -32,7 +32,8 @@ use Rattle.std.proofs.lemmas.List.Elements.{filter_map-append}
 use Rattle.dp_msg_meta.specs.declared.message.Meta.{Meta}
 use Rattle.dp_history.specs.declared.item.HistoryItem.{HistoryItem}
 use Rattle.std.proofs.lemmas.Option.{slice_get-map, slice_get-get_or}
-use Rattle.dp_history.specs.Frames.{Log, AreLogOf, AreWritten}
+use Rattle.dp_frame_log.specs.Frames.{Log, AreLogOf}
+use Rattle.dp_history.specs.Frames.{AreWritten}
 use Rattle.dp_messages.specs.declared.message.Msg.TheVariants as msg
 use Rattle.dp_history.specs.declared.item.HistoryItem.TheVariants as item
 

@@ -13,12 +13,13 @@ use Rattle.dp_messages.specs.Messages.{entry_bytes}
 use Rattle.dp_acl.specs.Opening.{goes_over}
 use Rattle.dp_epochs.specs.declared.event.Event.{Event}
 use Rattle.dp_history.specs.declared.item.HistoryItem.{HistoryItem}
-use Rattle.dp_history.specs.Frames.{Frames, Log, AreFramesOf, AreSealedOf, AreLogOf, AreWritten}
-use Rattle.dp_history.specs.Frames.{frames_of}
+use Rattle.dp_frame_log.specs.Frames.{Frames, Log, AreFramesOf, AreSealedOf, AreLogOf}
+use Rattle.dp_history.specs.Frames.{AreWritten}
+use Rattle.dp_frame_log.specs.Frames.{frames_of}
 use Rattle.dp_history.specs.Items.{entry_in}
 use Rattle.dp_history.specs.declared.frames.HistoryFrames.{HistoryFrames}
 use Rattle.dp_history.specs.Made.{AreKept, AreMadeOf, WereKept, going_over}
-use Rattle.dp_history.proofs.LogLemmas.{ends-count, next-segment}
+use Rattle.dp_frame_log.proofs.LogLemmas.{ends-count, next-segment}
 use Rattle.dp_history.proofs.MadeLemmas.{drop-both, none-written, written-on}
 
 going-append : (xs ys : List Entry) → going_over (xs ++ ys) ≡ going_over xs ++ going_over ys

@@ -1,5 +1,3 @@
-pub mod FrameLemmas
-pub mod LogLemmas
 pub mod MadeLemmas
 pub mod KeptLemmas
 pub mod PageLemmas

@@ -1,24 +1,22 @@
 -- The frames that were made of a history, and those of them that are kept.
-use Rattle.std.proofs.Common.{◌≡◌, ℕ, zero, suc, ◌+◌, ◌-◌, ◌<◌, ◌≤◌, Bool, true, false}
+use Rattle.std.proofs.Common.{◌≡◌, ℕ, zero, suc, ◌+◌, ◌-◌, ◌<◌, ◌≤◌, true, false}
 use Rattle.std.proofs.Common.{List, [], ◌∷◌, ◌++◌, length, take, drop, get_or, map, nat_lt}
 use Rattle.std.proofs.Common.{if◌then◌else◌, refl, sym, ap, subst, ◌∙◌, arith, ⊎_elim}
-use Rattle.std.proofs.Common.{append_assoc, append-nil, length-append, length-drop, length-take}
-use Rattle.std.proofs.Common.{get_or-drop, take-append-drop, drop-drop, take-take}
+use Rattle.std.proofs.Common.{append_assoc, length-append, length-drop, length-take}
+use Rattle.std.proofs.Common.{drop-drop, take-take}
 use Rattle.std.proofs.Common.{Result, Ok, Err, IfOk, lt-ltb, le-ltb}
-use Rattle.std.proofs.lemmas.Bool.{cases_Bool, ltb-false, cond-true, cond-false}
-use Rattle.std.proofs.lemmas.List.{drop_more, drop-take, take-append-le, drop-append-le}
+use Rattle.std.proofs.lemmas.Bool.{cases_Bool, ltb-false}
+use Rattle.std.proofs.lemmas.List.{drop-take, take-append-le, drop-append-le}
 use Rattle.std.proofs.lemmas.List.{get_or-map, length-map, get_or_append_left}
-use Rattle.std.proofs.Math.Seq.{drop-append_seam}
-use Rattle.std.proofs.lemmas.List.Elements.{filter-append}
 use Rattle.dp_messages.specs.declared.message.Entry.{Entry}
-use Rattle.dp_acl.specs.Opening.{goes_over}
 use Rattle.dp_epochs.specs.declared.event.Event.{Event}
 use Rattle.dp_history.specs.declared.item.HistoryItem.{HistoryItem}
 use Rattle.dp_history.specs.declared.frames.HistoryFrames.{HistoryFrames}
-use Rattle.dp_history.specs.Frames.{Log, AreLogOf, AreWritten, frame_count, frames_of}
+use Rattle.dp_frame_log.specs.Frames.{Log, AreLogOf, frame_count, frames_of}
+use Rattle.dp_history.specs.Frames.{AreWritten}
 use Rattle.dp_history.specs.Items.{entry_in}
-use Rattle.dp_history.specs.Made.{AreKept, AreMadeOf, going_over, made_at}
-use Rattle.dp_history.proofs.LogLemmas.{ends-count, sealed-count}
+use Rattle.dp_history.specs.Made.{AreMadeOf, made_at}
+use Rattle.dp_frame_log.proofs.LogLemmas.{frames-count}
 
 -- ---- lists
 
@@ -32,18 +30,6 @@ drop-both (suc n) (x ∷ xs) ys =
     drop-both n xs ys ∙ ap (λ k. drop n xs ++ drop k ys) less
 
 -- ---- frames that were made
-
--- there is a frame for each entry
-pub frames-count : (log : Log) (written : List Entry) → AreLogOf log written
-    → frame_count log ≡ length written
-frames-count log written are =
-    omega (
-      arith,
-      sealed-count log.sealed are.before are.sealed,
-      ends-count log.last are.rest are.last,
-      ap length are.all,
-      length-append are.before are.rest,
-    )
 
 -- a part of what was made of the first entries
 pub front-part : (written rest history : List Entry) (base at count : ℕ)

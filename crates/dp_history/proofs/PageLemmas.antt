@@ -10,7 +10,7 @@ use Rattle.dp_epochs.specs.declared.event.Event.{Event}
 use Rattle.dp_epochs.specs.Pull.{page}
 use Rattle.dp_history.specs.declared.frames.HistoryFrames.{HistoryFrames}
 use Rattle.dp_history.specs.declared.item.HistoryItem.{HistoryItem}
-use Rattle.dp_history.specs.Frames.{frames_of}
+use Rattle.dp_frame_log.specs.Frames.{frames_of}
 use Rattle.dp_history.specs.Items.{entry_in}
 use Rattle.dp_history.specs.Made.{AreMadeOf}
 use Rattle.dp_history.specs.Pages.{IsPageOf}

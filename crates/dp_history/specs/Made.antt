@@ -5,7 +5,8 @@ use Rattle.std.specs.List.{filter}
 use Rattle.dp_messages.specs.declared.message.Entry.{Entry}
 use Rattle.dp_acl.specs.Opening.{goes_over}
 use Rattle.dp_history.specs.declared.frames.HistoryFrames.{HistoryFrames}
-use Rattle.dp_history.specs.Frames.{Log, AreLogOf, AreWritten, frame_count}
+use Rattle.dp_frame_log.specs.Frames.{Log, AreLogOf, frame_count}
+use Rattle.dp_history.specs.Frames.{AreWritten}
 
 -- they are those of the first entries before a place, and of the first from that place on
 pub record AreMadeOf (frames : HistoryFrames) (history : List Entry) : Type 0 where

@@ -4,7 +4,7 @@ use Rattle.dp_messages.specs.declared.message.Entry.{Entry}
 use Rattle.dp_epochs.specs.declared.event.Answer.{Answer}
 use Rattle.dp_epochs.specs.declared.event.Answer.TheVariants.{Entries, Gone}
 use Rattle.dp_epochs.specs.Pull.{page as page_of}
-use Rattle.dp_history.specs.Frames.{IsShort, frames_of}
+use Rattle.dp_frame_log.specs.Frames.{IsShort, frames_of}
 use Rattle.dp_history.specs.declared.page.Page.{Page}
 
 -- an answer to a Pull, if these are the frames of its entries

@@ -4,18 +4,16 @@ ghost use Rattle.std.specs.Prelude.{◌≡◌, ◌+◌, ◌<◌, ◌≤◌, ◌+
 ghost use Rattle.std.specs.Prelude.{◌∷◌, [], IfOk, OnOk, OnErr};
 ghost use Rattle.dp_messages.specs.declared.message.Entry.{Entry as Piece};
 ghost use Rattle.dp_messages.specs.Messages.{entry_bytes};
-ghost use Rattle.dp_history.specs.Frames.{AreFramesOf, AreSealedOf, AreLogOf, AreWritten};
-ghost use Rattle.dp_history.specs.Frames.{IsShort, frames_of};
+ghost use Rattle.dp_frame_log.specs.Frames.{AreFramesOf, AreSealedOf, AreLogOf, IsShort, frames_of};
+ghost use Rattle.dp_history.specs.Frames.{AreWritten};
 ghost use Rattle.dp_history.specs.Items.{entry_in, IsIn};
 ghost use Rattle.dp_history.specs.Made.{AreKept, AreMadeOf, WereKept, going_over};
 ghost use Rattle.dp_history.specs.Made.{made_at};
 ghost use Rattle.dp_history.specs.Pages.{IsPageOf, page_most};
 
 use crate::item::{HistoryItem, count_kept, is_kept, put_item, write_all};
-use crate::log::{FrameLog, Sealed};
-use crate::page::PageFrames;
-use crate::segment::Segment;
 use dp_epochs::Event;
+use dp_frame_log::{FrameLog, PageFrames, Sealed, Segment};
 use dp_lists::{prefix_of, rest_of};
 use std::alloc::{AllocError, Global};
 
@@ -96,9 +94,10 @@ fn keep_sealed(
     let mut left = items;
     let mut from = skip;
     for segment in sealed {
-        keep_segment(journal, left, from, &segment.frames, kept)?;
-        left = rest_of(left, segment.count);
-        from = from.saturating_sub(segment.count);
+        let count = segment.len();
+        keep_segment(journal, left, from, segment.frames(), kept)?;
+        left = rest_of(left, count);
+        from = from.saturating_sub(count);
     }
     Ok(())
 }

@@ -9,18 +9,17 @@ ghost use Rattle.dp_epochs.specs.declared.event.Event.{Event as Kept};
 ghost use Rattle.dp_epochs.specs.State.{entry_of, is_name};
 ghost use Rattle.dp_messages.specs.declared.message.Entry.{Entry as Piece};
 ghost use Rattle.dp_messages.specs.Messages.{entry_bytes};
-ghost use Rattle.dp_history.specs.Frames.{AreLogOf, AreWritten};
+ghost use Rattle.dp_frame_log.specs.Frames.{AreLogOf};
+ghost use Rattle.dp_history.specs.Frames.{AreWritten};
 ghost use Rattle.dp_history.specs.Items.{entry_in, IsIn, IsSay, join_of, message_of, part_of};
 
-use crate::log::FrameLog;
-use crate::page::PageFrames;
 use dp_epochs::{Entries, Event};
+use dp_frame_log::{FrameLog, PageFrames};
 use dp_messages::{Entry, Msg};
 use dp_msg_meta::{Meta, Text};
 use std::alloc::{AllocError, Global};
 
 /// An entry of the history. What was said is kept once, in the journal.
-#[derive(Drop)]
 pub enum HistoryItem {
     /// The user said the message of this event of the journal.
     Said { event: u32, user: u8 },
@@ -30,6 +29,19 @@ pub enum HistoryItem {
     Command { event: u32 },
     /// An entry that no event says.
     Server(Box<Entry>),
+}
+
+// It is written out, so that it is only called where an item is let go. A derived one would be
+// proved again there.
+impl Drop for HistoryItem {
+    fn drop(self) {
+        match self {
+            HistoryItem::Said { event: _, user: _ } => {}
+            HistoryItem::Joined { event: _, user: _ } => {}
+            HistoryItem::Command { event: _ } => {}
+            HistoryItem::Server(entry) => drop(entry),
+        }
+    }
 }
 
 /// The name as a text, if it is a name.
@@ -98,7 +110,12 @@ pub fn join_entry(alloc: Global, event: &Event, user: u8) -> Result<Option<Entry
 }
 
 /// The user's Join by the Open that is this event of the journal.
-fn join(alloc: Global, journal: &[Event], event: u32, user: u8) -> Result<Entry, AllocError>
+pub(crate) fn join(
+    alloc: Global,
+    journal: &[Event],
+    event: u32,
+    user: u8,
+) -> Result<Entry, AllocError>
     requires { is_some (join_of user (slice_get journal.now event)) ≡ true }
     ensures { IfOk result (λ entry. Some entry ≡ join_of user (slice_get journal.now event)) }
 {
@@ -164,11 +181,18 @@ pub fn count_kept(journal: &[Event], items: &[HistoryItem]) -> usize
     count
 }
 
+/// The entry in a box.
+pub(crate) fn boxed(alloc: Global, entry: Entry) -> Result<Box<Entry>, AllocError>
+    ensures { IfOk result (λ found. found.value ≡ entry) }
+{
+    Ok(Box::new(alloc, entry)?)
+}
+
 /// A copy of the entry, in a box.
 fn boxed_copy(alloc: Global, entry: &Entry) -> Result<Box<Entry>, AllocError>
     ensures { IfOk result (λ copy. copy.value ≡ entry.now) }
 {
-    Ok(Box::new(alloc, entry.copy()?)?)
+    boxed(alloc, entry.copy()?)
 }
 
 /// The item once more. A message is copied only if it is the server's own.
@@ -205,6 +229,23 @@ pub fn entry(alloc: Global, journal: &[Event], item: &HistoryItem) -> Result<Ent
     }
 }
 
+/// Adds copies of entries to a list.
+fn add_copies(
+    alloc: Global,
+    journal: &[Event],
+    items: &[HistoryItem],
+    entries: &mut Vec<Entry>,
+) -> Result<(), AllocError>
+    requires { All (IsIn journal.now) items.now }
+    ensures { OnOk result (entries.new.items
+        ≡ entries.old.items ++ map (entry_in journal.now) items.now) }
+{
+    for item in items {
+        entries.push(entry(alloc, journal, item)?)?;
+    }
+    Ok(())
+}
+
 /// Copies of entries.
 pub fn copies(
     alloc: Global,
@@ -215,10 +256,13 @@ pub fn copies(
     ensures { IfOk result (λ copies. copies ≡ map (entry_in journal.now) items.now) }
 {
     let mut entries = Vec::new(alloc);
-    for item in items {
-        entries.push(entry(alloc, journal, item)?)?;
+    match add_copies(alloc, journal, items, &mut entries) {
+        Ok(()) => Ok(Entries::from_vec(entries)),
+        Err(error) => {
+            drop(entries);
+            Err(error)
+        }
     }
-    Ok(Entries::from_vec(entries))
 }
 
 /// Puts the frame of an entry that is kept beside the journal into a page, in place of what there
@@ -235,7 +279,9 @@ pub(crate) fn put_item(
 {
     page.clear();
     let entry = entry(alloc, journal, item)?;
-    page.put(&entry)
+    let outcome = page.put(&entry);
+    drop(entry);
+    outcome
 }
 
 /// Adds the frame of the message that the event says.
@@ -274,7 +320,9 @@ fn append_item(
         HistoryItem::Server(entry) => frames.append(entry.user, &entry.msg),
         _ => {
             let entry = entry(alloc, journal, item)?;
-            frames.append(entry.user, &entry.msg)
+            let outcome = frames.append(entry.user, &entry.msg);
+            drop(entry);
+            outcome
         }
     }
 }

@@ -12,7 +12,7 @@ ghost use Rattle.dp_history.specs.Users.{mark, AreJoined};
 ghost use Rattle.dp_history.specs.Items.{join_of, IsIn, IsPart, commands_in, entry_in};
 ghost use Rattle.dp_history.specs.Openings.{Holds};
 
-use crate::item::{HistoryItem, copy_of, entry, is_kept};
+use crate::item::{HistoryItem, boxed, copy_of, is_kept, join};
 use dp_acl::{Rights, commands_change_no_right, kept_change_no_right};
 use dp_epochs::Event;
 use dp_messages::{Entry, Msg};
@@ -42,10 +42,17 @@ impl Opening {
         ensures { OnOk result ((journal : List Kept) (history : List Piece)
             → Holds journal self.old history → Holds journal self.new (history ++ entry ∷ [])) }
     {
-        self.rights.note(&entry)?;
-        let kept = Box::new(*self.live.allocator(), entry)?;
-        self.live.push(HistoryItem::Server(kept))?;
-        Ok(())
+        match self.rights.note(&entry) {
+            Ok(()) => {
+                let kept = boxed(*self.live.allocator(), entry)?;
+                self.live.push(HistoryItem::Server(kept))?;
+                Ok(())
+            }
+            Err(error) => {
+                drop(entry);
+                Err(error)
+            }
+        }
     }
 
     /// Adds the user's Join by the Open that is this event of the journal.
@@ -56,11 +63,18 @@ impl Opening {
             → Holds journal.now self.old history
             → Holds journal.now self.new (history ++ filter_map (last_join live) (user ∷ []))) }
     {
-        let item = HistoryItem::Joined { event, user };
-        let join = entry(*self.live.allocator(), journal, &item)?;
-        self.rights.note(&join)?;
-        self.live.push(item)?;
-        Ok(())
+        let join = join(*self.live.allocator(), journal, event, user)?;
+        match self.rights.note(&join) {
+            Ok(()) => {
+                drop(join);
+                self.live.push(HistoryItem::Joined { event, user })?;
+                Ok(())
+            }
+            Err(error) => {
+                drop(join);
+                Err(error)
+            }
+        }
     }
 
     /// Adds the last Joins of the users who are marked, each by the event that is noted.

@@ -1,6 +1,6 @@
 -- What holds if an event may be kept.
 use Rattle.std.proofs.Common.{◌≡◌, ℕ, ◌+◌, ◌-◌, ◌*◌, ◌^◌, ◌<◌, ◌≤◌, true, nat_lt, nat_le, length}
-use Rattle.std.proofs.Common.{sym, ap, subst, arith, length-append}
+use Rattle.std.proofs.Common.{sym, ap, subst, arith, length-append, Result, Ok, Err, IfOk}
 use Rattle.std.specs.Prelude.{vec_len, vec_capacity}
 use Rattle.std.proofs.lemmas.Bool.{ltb-true, leb-true, and_parts}
 use Rattle.dp_acl.specs.Opening.{opening_limit}
@@ -10,13 +10,23 @@ use Rattle.dp_messages.specs.declared.message.Msg.{Msg}
 use Rattle.dp_messages.specs.Messages.{payload_of}
 use Rattle.dp_messages.specs.declared.message.Msg.TheVariants as msg
 use Rattle.dp_epochs.specs.declared.event.Event.TheVariants as event
+use Rattle.dp_epochs.specs.declared.effect.Effect.{Effect}
 use Rattle.dp_commit.specs.declared.keeping.Made.{Made}
+use Rattle.dp_commit.specs.declared.supply.Supply.{Supply}
 use Rattle.dp_commit.specs.Keeping.{MayBeKept, HasRoom}
 use Rattle.dp_commit.specs.Sending.{PartSize}
 use Rattle.dp_tables.specs.declared.tables.Tables.TheInside.{Inside}
 use Rattle.dp_tables.specs.Inside.{is_ready, ledger_of, AreTables}
 use Rattle.dp_tables.specs.SessionLog.{state_in}
 use Rattle.dp_tables.specs.Ready.{MayKeep}
+
+-- what was so of what was made ahead is so of the event with that
+pub ahead-made : {E F : Type 0} (r : Result Made E) (ahead : Result (Effect × Supply) F)
+    (A : Effect × Supply → Type 0)
+    → IfOk r (λ made. ahead ≡ Ok (made.effect, made.supply)) → IfOk ahead A
+    → IfOk r (λ made. A (made.effect, made.supply))
+ahead-made (Ok made) ahead A is h = subst (λ x. IfOk x A) is h
+ahead-made (Err e) ahead A is h = is
 
 -- there are no more connections than events
 pub connections-fit : (t : Inside) → AreTables t → length t.roster.connections.items ≤ event_limit

@@ -1,12 +1,13 @@
 -- Which rows may stand next.
 use Rattle.std.proofs.Common.{◌≡◌, ℕ, ◌+◌, ◌&&◌, nat_lt, nat_le, true, false, List, [], ◌∷◌, Option}
-use Rattle.std.proofs.Common.{None, Some, MatchOption, ◌++◌, length, refl, sym, ap, subst, ◌∙◌}
+use Rattle.std.proofs.Common.{Result, Ok, Err, is_ok, OnOk, None, Some, MatchOption, ◌++◌, length, refl, sym, ap, subst, ◌∙◌}
 use Rattle.dp_keeper.specs.declared.row.Row.{Row}
 use Rattle.dp_epochs.specs.declared.event.Event.{Event}
 use Rattle.dp_epochs.specs.Effects.{IsEffect}
 use Rattle.dp_epochs.specs.Rows.{row_of, row_bytes, event_limit, byte_limit, has_room}
 use Rattle.dp_epochs.specs.Spelled.{RowSpells}
-use Rattle.dp_epochs.specs.Resumed.{MayStand, MayNotStand}
+use Rattle.dp_epochs.specs.Past.{state_after}
+use Rattle.dp_epochs.specs.Resumed.{MayStand, MayNotStand, NamesGiven}
 use Rattle.dp_commit.specs.declared.keeping.Made.{Made}
 use Rattle.dp_commit.specs.Placed.{IsSupply}
 use Rattle.dp_tables.specs.SessionLog.{SessionLog, state_in}
@@ -40,22 +41,44 @@ no-room one journal row n is none e may =
     sym may.room ∙ sym (room-is one journal row e n is may.spells) ∙ none in
     cc
 
--- what is made of the event of a row, once memory was made ready
-pub row-made : OneLength → (old l : SessionLog) (row : Row) (e : Event) (made : Made) (n : ℕ)
-    → l ≡ record old { room = l.room } → n ≡ length row.bytes
-    → MayStand old.journal row e → made.event ≡ e → IsEffect (state_in old) e made.effect
-    → IsSupply old.journal (state_in old) e made.effect made.supply → MayKeep l made n
-row-made one old l row e made n same is may event cause places =
-    subst (λ x. MayKeep x made n) (sym same) (record {
-      does = subst (λ x. IsEffect (state_in old) x made.effect) (sym event) cause;
-      places = subst (λ x. IsSupply old.journal (state_in old) x made.effect made.supply)
-          (sym event) places;
-      long = is ∙ one row.bytes e may.spells ∙ ap (λ x. length (row_of x)) (sym event);
-      room = ap (has_room old.journal) event ∙ may.room;
+-- the event of a row for which there is room may stand exactly if its connection was given out
+pub may-stand : ((bytes : List ℕ) (e f : Event) → RowSpells bytes e → RowSpells bytes f → e ≡ f)
+    → OneLength → (journal : List Event) (row : Row) (e : Event) (found : Option Event) (n : ℕ)
+    → row.n ≡ length journal → n ≡ length row.bytes → RowSpells row.bytes e
+    → (nat_lt (length journal) event_limit && nat_le (row_bytes journal + n) byte_limit) ≡ true
+    → MatchOption found (NamesGiven (state_after journal []) e → ⊥)
+    (λ f. (f ≡ e) × NamesGiven (state_after journal []) e)
+    → MatchOption found (MayNotStand journal row) (MayStand journal row)
+may-stand same one journal row e None n number is spells fits not = λ f may.
+    not (subst (NamesGiven (state_after journal [])) (same row.bytes f e may.spells spells)
+    may.given)
+may-stand same one journal row e (Some f) n number is spells fits (it, given) =
+    subst (MayStand journal row) (sym it) (record {
+      number = number;
+      spells = spells;
+      given = given;
+      room = sym (room-is one journal row e n is spells) ∙ fits;
     })
+
+-- what is made of an event for which there is room
+pub row-made : (l : SessionLog) (e : Event) (made : Made) (n : ℕ) → n ≡ length (row_of e)
+    → has_room l.journal e ≡ true → made.event ≡ e → IsEffect (state_in l) e made.effect
+    → IsSupply l.journal (state_in l) e made.effect made.supply → MayKeep l made n
+row-made l e made n is room event cause places = record {
+  does = subst (λ x. IsEffect (state_in l) x made.effect) (sym event) cause;
+  places = subst (λ x. IsSupply l.journal (state_in l) x made.effect made.supply) (sym event)
+      places;
+  long = is ∙ ap (λ x. length (row_of x)) (sym event);
+  room = ap (has_room l.journal) event ∙ room;
+}
 
 pub row-kept : (old l new : SessionLog) (row : Row) (e : Event) → l ≡ record old { room = l.room }
     → MayStand old.journal row e
     → new ≡ record l { journal = l.journal ++ e ∷ []; room = new.room }
     → Replays old row true new
 row-kept old l new row e same may kept = (e, may, rw (kept, same) refl)
+
+-- what is so if a call came off is so
+pub on-ok : {T E : Type 0} (r : Result T E) (A : Type 0) → is_ok r ≡ true → OnOk r A → A
+on-ok (Ok x) A good h = h
+on-ok (Err e) A good h = cc

@@ -12,7 +12,7 @@ ghost use Rattle.dp_tables.specs.Ready.{IsReady};
 use crate::ready::Ready;
 use crate::tables::Tables;
 use dp_acl::operators_stay;
-use dp_commit::{Made, Supply, is_named, make_entries};
+use dp_commit::{Made, Supply, is_named, make_entries, with_ahead};
 use dp_epochs::{Connection, Decision, Effect, Event, Reply, decisions_have_effects, make_row};
 use dp_history::{first_operator, free_id, next_operator};
 use dp_keeper::{Row, RowBytes};
@@ -163,17 +163,8 @@ impl Tables {
         ensures places { IfOk result (λ made. IsSupply self.now.journal (state_in self.now)
             event made.effect made.supply) }
     {
-        match self.supplied(&event, row) {
-            Ok((effect, supply)) => Ok(Made {
-                event,
-                effect,
-                supply,
-            }),
-            Err(error) => {
-                drop(event);
-                Err(error)
-            }
-        }
+        let ahead = self.supplied(&event, row);
+        with_ahead(event, ahead)
     }
 
     /// The event as it is ready to be kept; `None` if there is no room for it.

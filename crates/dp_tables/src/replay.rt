@@ -2,29 +2,20 @@
 //!
 //! The rule: docs/protocol.md, "Kept rows".
 
-ghost use Rattle.std.specs.Prelude.{◌≡◌, ◌↔◌, [], true, IfOk, OnErr};
+ghost use Rattle.std.specs.Prelude.{◌≡◌, ◌∷◌, ◌++◌, [], true, length, IfOk, OnOk, OnErr};
 ghost use Rattle.std.specs.Prelude.{MatchOption};
-ghost use Rattle.dp_epochs.specs.Resumed.{MayNotStand, MayStand, NamesGiven};
+ghost use Rattle.dp_epochs.specs.Resumed.{MayNotStand, MayStand};
+ghost use Rattle.dp_epochs.specs.Rows.{has_room, row_of};
 ghost use Rattle.dp_tables.specs.SessionLog.{state_in};
 ghost use Rattle.dp_tables.specs.Replay.{Replays};
 
 use crate::tables::Tables;
+use dp_commit::{after_done, if_given};
 use dp_epochs::{Event, read_row, rows_spell_events};
 use dp_keeper::Row;
 use std::alloc::AllocError;
 
 impl Tables {
-    /// Whether the event names no connection, or one that was given out.
-    fn names_given(&self, event: &Event) -> bool
-        ensures { (result ≡ true) ↔ NamesGiven (state_in self.now) event.now }
-    {
-        match event {
-            Event::Open { .. } => true,
-            Event::Say { conn, .. } => self.connection(*conn).is_some(),
-            Event::Close { conn } => self.connection(*conn).is_some(),
-        }
-    }
-
     /// The event of a row of this number and these bytes, if it may stand after those of the events
     /// so far.
     fn next_event(&self, n: u64, bytes: &[u8]) -> Result<Option<Event>, AllocError>
@@ -43,12 +34,23 @@ impl Tables {
         let Some(event) = read_row(self.allocator(), bytes)? else {
             return Ok(None);
         };
-        if self.names_given(&event) {
-            Ok(Some(event))
-        } else {
-            drop(event);
-            Ok(None)
-        }
+        Ok(if_given(&self.roster.connections, event))
+    }
+
+    /// Keeps an event for which there is room, and whose row has this length.
+    fn keep_next(&mut self, event: Event, row: usize) -> Result<(), AllocError>
+        requires memory { self.old.room ≡ true }
+        requires row { row ≡ length (row_of event) }
+        requires room { has_room self.old.journal event ≡ true }
+        ensures kept { OnOk result (self.new ≡ record self.old {
+          journal = self.old.journal ++ event ∷ [];
+          room = self.new.room;
+        }) }
+        ensures err { OnErr result (self.new ≡ self.old) }
+    {
+        let made = self.made(event, row)?;
+        self.take(made, row as u64);
+        Ok(())
     }
 
     /// Keeps the event of a row of this number and these bytes, if it may stand next.
@@ -59,20 +61,12 @@ impl Tables {
         ensures err { OnErr result (self.new ≡ record self.old { room = self.new.room }) }
     {
         rows_spell_events();
-        let Some(event) = self.next_event(n, bytes)? else {
+        let Some(next) = self.next_event(n, bytes)? else {
             return Ok(false);
         };
-        let made = self.made(event, bytes.len())?;
-        match self.make_room() {
-            Ok(()) => {
-                self.take(made, bytes.len() as u64);
-                Ok(true)
-            }
-            Err(error) => {
-                drop(made);
-                Err(error)
-            }
-        }
+        let event = after_done(self.make_room(), next)?;
+        self.keep_next(event, bytes.len())?;
+        Ok(true)
     }
 
     /// Keeps the event of a row, if the row may stand after those of the events so far. It answers

@@ -2,10 +2,10 @@ use Rattle.std.proofs.Common.{◌≡◌, ◌++◌, length, map, drop, sym, ap, s
 use Rattle.std.proofs.Common.{append_assoc}
 use Rattle.std.proofs.lemmas.List.{drop-map}
 use Rattle.std.proofs.Math.Seq.{drop-append_seam}
-use Rattle.dp_history.specs.Frames.{AreFramesOf, AreSealedOf}
+use Rattle.dp_frame_log.specs.Frames.{AreFramesOf, AreSealedOf}
 use Rattle.dp_history.specs.Items.{entry_in}
 use Rattle.dp_history.specs.Made.{WereKept, going_over}
-use Rattle.dp_history.proofs.LogLemmas.{sealed-count}
+use Rattle.dp_frame_log.proofs.LogLemmas.{sealed-count}
 use Rattle.dp_history.proofs.KeptLemmas.{log-kept, log-begun}
 use Rattle.dp_history.proofs.frames.keep_frames.Goals as goal
 

@@ -1,6 +1,6 @@
-use Rattle.std.proofs.Common.{length, ◌++◌, map, All, sym, ap, subst, ◌∙◌}
+use Rattle.std.proofs.Common.{◌++◌, All, sym, subst}
 use Rattle.std.proofs.lemmas.List.Elements.{All-drop}
-use Rattle.dp_history.specs.Frames.{AreFramesOf}
+use Rattle.dp_frame_log.specs.Frames.{AreFramesOf}
 use Rattle.dp_history.specs.Items.{IsIn}
 use Rattle.dp_history.proofs.KeptLemmas.{passed-first, passed-next, passed-err, passed-all}
 use Rattle.dp_history.proofs.KeptLemmas.{next-of}
@@ -24,26 +24,26 @@ keep_segment-requires-clause-made c =
     (sym c.segment-item.is) p.of p.items in (
       n.mine,
       n.rest ++ m.1,
-      subst (λ f. AreFramesOf f n.mine) (sym (c.deref.ensures ∙ c.segment.view_is)) n.of,
+      subst (λ f. AreFramesOf f n.mine) (sym c.frames.ensures) n.of,
       n.items,
     )
 
 pub loop-segment-preserved : goal.loop-segment-preserved
 loop-segment-preserved c = record {
   said = subst (All (IsIn c.args.journal.now)) (sym c.rest_of-left.ensures)
-      (All-drop (IsIn c.args.journal.now) c.segment.inside.count c.loop-segment.left.now
+      (All-drop (IsIn c.args.journal.now) c.len-count.result c.loop-segment.left.now
       c.loop-segment.invariant.said);
   passed = λ entries more of all.
       passed-next c.args.journal.now c.args.sealed.now c.loop-segment.segment-index
       c.segment-item.result c.loop-segment.left.now c.rest_of-left.result.now c.args.skip
-      c.loop-segment.from c.saturating_sub-from.result c.segment.inside.count
+      c.loop-segment.from c.saturating_sub-from.result c.len-count.result
       c.loop-segment.kept c.keep_segment.new.kept entries more c.loop-segment-test.true
       (sym c.segment-item.is) (c.loop-segment.invariant.passed entries more of all)
-      (c.segment.invariant ∙ ap (λ f. length f.ends) c.segment.view_is)
+      c.len-count.ensures
       c.rest_of-left.ensures c.saturating_sub-from.ensures
       (λ before mine rest kept frames items.
       c.in_ok-keep_segment.ensures before mine rest kept
-      (subst (λ f. AreFramesOf f mine) (sym (c.deref.ensures ∙ c.segment.view_is)) frames)
+      (subst (λ f. AreFramesOf f mine) (sym c.frames.ensures) frames)
       items);
 }
 
@@ -56,7 +56,7 @@ returns-in_err-keep_segment c = λ entries more of all.
     (c.loop-segment.invariant.passed entries more of all)
     (λ before mine rest kept frames items.
     c.keep_segment.ensures before mine rest kept
-    (subst (λ f. AreFramesOf f mine) (sym (c.deref.ensures ∙ c.segment.view_is)) frames)
+    (subst (λ f. AreFramesOf f mine) (sym c.frames.ensures) frames)
     items)
 
 pub returns : goal.returns

@@ -1,6 +1,6 @@
 use Rattle.std.proofs.Common.{◌≡◌, List, ◌++◌, map, drop, All}
 use Rattle.dp_messages.specs.declared.message.Entry.{Entry}
-use Rattle.dp_history.specs.Frames.{AreSealedOf}
+use Rattle.dp_frame_log.specs.Frames.{AreSealedOf}
 use Rattle.dp_history.specs.Items.{entry_in, IsIn}
 use Rattle.dp_history.proofs.KeptLemmas.{Passed}
 use Rattle.dp_history.proofs.frames.keep_sealed.Given as goal

@@ -1,6 +1,6 @@
-use Rattle.std.proofs.Common.{◌≡◌, ◌<◌, ◌+◌, ◌-◌, ◌++◌, ◌∷◌, [], length, take, drop, refl, sym, ap}
+use Rattle.std.proofs.Common.{◌≡◌, ◌<◌, ◌+◌, ◌-◌, ◌++◌, ◌∷◌, [], length, take, drop, refl, sym}
 use Rattle.std.proofs.Common.{subst, ◌∙◌, arith, append_assoc}
-use Rattle.dp_history.specs.Frames.{AreLogOf}
+use Rattle.dp_frame_log.specs.Frames.{AreLogOf}
 use Rattle.dp_history.specs.Items.{entry_in, IsIn}
 use Rattle.dp_history.specs.Made.{going_over}
 use Rattle.dp_history.proofs.MadeLemmas.{entry-of-frame}

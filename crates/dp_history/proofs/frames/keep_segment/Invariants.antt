@@ -1,6 +1,6 @@
 use Rattle.std.proofs.Common.{◌≡◌, ◌-◌, List, ◌++◌, map, take, drop}
 use Rattle.dp_messages.specs.declared.message.Entry.{Entry}
-use Rattle.dp_history.specs.Frames.{AreFramesOf, AreLogOf}
+use Rattle.dp_frame_log.specs.Frames.{AreFramesOf, AreLogOf}
 use Rattle.dp_history.specs.Items.{entry_in}
 use Rattle.dp_history.specs.Made.{going_over}
 use Rattle.dp_history.proofs.frames.keep_segment.Given as goal

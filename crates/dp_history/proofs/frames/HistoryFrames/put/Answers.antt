@@ -1,5 +1,6 @@
 use Rattle.std.proofs.Common.{arith}
-use Rattle.dp_history.proofs.MadeLemmas.{frames-count, front-fits, rest-fits, put-front, put-rest}
+use Rattle.dp_frame_log.proofs.LogLemmas.{frames-count}
+use Rattle.dp_history.proofs.MadeLemmas.{front-fits, rest-fits, put-front, put-rest}
 use Rattle.dp_history.proofs.frames.HistoryFrames.put.Goals as goal
 
 pub put-requires-clause-are : goal.put-requires-clause-are

@@ -1,4 +1,4 @@
-use Rattle.std.proofs.Common.{◌≡◌, ◌+◌, ap, sym, subst, ◌∙◌, arith, IfOk}
+use Rattle.std.proofs.Common.{◌+◌, ap, sym, subst, ◌∙◌, arith, IfOk}
 use Rattle.dp_acl.specs.Opening.{opening}
 use Rattle.dp_epochs.specs.State.{epoch_of, kept_by, present_users, sent_commands}
 use Rattle.dp_history.specs.Openings.{Holds}

@@ -1,10 +1,10 @@
-use Rattle.std.proofs.Common.{◌≡◌, ◌++◌, ◌∷◌, [], ◌-◌, ◌≤◌, ◌^◌, true, refl, sym, ap, subst, ◌∙◌}
+use Rattle.std.proofs.Common.{◌++◌, ◌∷◌, [], ◌-◌, refl, sym, ap, subst, ◌∙◌}
 use Rattle.std.proofs.Common.{arith}
 use Rattle.dp_commit.specs.Keeping.{MayBeKept, HasRoom}
 use Rattle.dp_commit.specs.Marks.{quiet_of}
 use Rattle.dp_commit.proofs.QuietLemmas.{quiet-stays}
 use Rattle.dp_tables.specs.SessionLog.{state_in}
-use Rattle.dp_tables.specs.Inside.{is_ready, ledger_of}
+use Rattle.dp_tables.specs.Inside.{ledger_of}
 use Rattle.dp_tables.specs.Ready.{MayKeep}
 use Rattle.dp_tables.proofs.TableLemmas.{epoch-fits, live-fits, tables-kept, ledger-is}
 use Rattle.dp_tables.proofs.KeepLemmas.{row-fits, may-be-kept, room-beside, room-in-journal}
