@@ -48,7 +48,7 @@ pub(crate) fn keep_chat(
         (keep_last chat_limit (lines ++ chat_by entry.now.user entry.now.msg)) chat_limit) }
 {
     if let Some(line) = chat_of(entry)? {
-        let _oldest = chats.push_back(line);
+        drop(chats.push_back(line));
     }
     Ok(())
 }
@@ -60,14 +60,27 @@ pub(crate) fn chats_text(
 ) -> Result<Vec<u8>, AllocError>
     ensures { IfOk result (λ text. text.items ≡ chats_text chats.now.items) }
 {
+    let mut text = Vec::new(alloc);
+    match put_chats(chats, &mut text) {
+        Ok(()) => Ok(text),
+        Err(error) => {
+            drop(text);
+            Err(error)
+        }
+    }
+}
+
+/// Adds the text of the lines that are kept at the end.
+fn put_chats(chats: &HeapCircularBuffer<ChatLine>, text: &mut Vec<u8>) -> Result<(), AllocError>
+    ensures { OnOk result (text.new.items ≡ text.old.items ++ chats_text chats.now.items) }
+{
     let mut digits = Buffer::new();
-    let mut text = Vec::from_slice(alloc, b"chats ")?;
+    text.extend_from_slice(b"chats ")?;
     text.extend_from_slice(digits.format(chats.len()).as_bytes())?;
     text.extend_from_slice(b"\n")?;
     let (first, second) = chats.as_slices();
-    put_lines(first, &mut text)?;
-    put_lines(second, &mut text)?;
-    Ok(text)
+    put_lines(first, text)?;
+    put_lines(second, text)
 }
 
 /// Adds the texts of the lines at the end.

@@ -63,14 +63,26 @@ pub(crate) fn greet<B: ClientBoard, R: Source, S: Sink>(
         (S.faults tx.old) (S.faults tx.new)) }
 {
     let chats = HeapCircularBuffer::with_capacity(alloc, CHAT_LIMIT)?;
-    say_hello(alloc, name, tx)?;
+    match say_hello(alloc, name, tx) {
+        Ok(()) => {}
+        Err(stop) => {
+            drop(chats);
+            return Err(stop);
+        }
+    }
     let mut reader = EntryReader::new(alloc, 0, LINK_LIMIT);
-    let client = welcomed(alloc, &mut reader, rx)?;
-    Ok(Greeting {
-        client,
-        chats,
-        reader,
-    })
+    match welcomed(alloc, &mut reader, rx) {
+        Ok(client) => Ok(Greeting {
+            client,
+            chats,
+            reader,
+        }),
+        Err(stop) => {
+            drop(reader);
+            drop(chats);
+            Err(stop)
+        }
+    }
 }
 
 /// Writes a Hello of this name to a link.

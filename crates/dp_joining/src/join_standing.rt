@@ -44,7 +44,9 @@ impl Standing for JoinStanding {
                 if may_come(before, &entry.msg) {
                     Ok(entry)
                 } else {
-                    Err(Refusal::Cause(LinkFlaw::Misplaced(entry.msg.kind())))
+                    let kind = entry.msg.kind();
+                    drop(entry);
+                    Err(Refusal::Cause(LinkFlaw::Misplaced(kind)))
                 }
             }
             Err(error) => Err(flaw_of(error)),

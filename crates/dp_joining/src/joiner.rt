@@ -229,7 +229,17 @@ impl<B: ClientBoard, R: Source, S: Sink> Joiner<B, R, S> {
         ensures sink { S.faults result.1 ≡ self.write_faults }
         ensures held { S.held result.1 ≡ self.written }
     {
-        let Joiner { rx, tx, .. } = self;
+        let Joiner {
+            client,
+            chats,
+            reader,
+            rx,
+            tx,
+            ..
+        } = self;
+        drop(client);
+        drop(chats);
+        drop(reader);
         (rx, tx)
     }
 }

@@ -59,7 +59,9 @@ pub(crate) fn send<S: Sink>(alloc: Global, user: u8, msg: Msg, tx: &mut S) -> Re
     ensures kept { OnOk result (S.faults tx.new ≡ S.faults tx.old) }
     ensures fault { IfErr result (FaultMatchesWriting (S.faults tx.old) (S.faults tx.new)) }
 {
-    send_message(alloc, user, &msg, tx)
+    let sent = send_message(alloc, user, &msg, tx);
+    drop(msg);
+    sent
 }
 
 /// Acknowledges the epoch, if one is to be.

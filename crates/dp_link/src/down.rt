@@ -84,7 +84,10 @@ pub fn pump_down<W: Wait, C: SessionCore, S: Sink>(
     'pages: for _ in rt.forever() {
         match send_more(rt, hall, seat, tx, greeting, &mut asked) {
             Ok(()) => {}
-            Err(end) => return end,
+            Err(end) => {
+                drop(asked);
+                return end;
+            }
         }
     }
     unreachable!()

@@ -25,6 +25,7 @@ use dp_msg_meta::Control;
 use dp_split::Splitter;
 use dp_wire::Gate;
 use std::alloc::{AllocError, Global};
+use std::mem::replace;
 use std::sync::Wait;
 
 /// Reads the Hello of a link, acts an Open by its name, and answers with a Welcome, or with a
@@ -106,11 +107,17 @@ fn read_name<R: Source>(alloc: Global, rx: &mut R, split: &mut Splitter) -> Resu
     let mut link = reader_of(alloc, split);
     match link.next(alloc, rx) {
         Ok(Some(entry)) => {
-            *split = link.into_splitter();
+            drop(replace(split, link.into_splitter()));
             name_in(alloc, entry)
         }
-        Ok(None) => Err(GreetEnd::End),
-        Err(end) => Err(greet_end_of(&end)),
+        Ok(None) => {
+            drop(link);
+            Err(GreetEnd::End)
+        }
+        Err(end) => {
+            drop(link);
+            Err(greet_end_of(&end))
+        }
     }
 }
 
@@ -118,7 +125,9 @@ fn read_name<R: Source>(alloc: Global, rx: &mut R, split: &mut Splitter) -> Resu
 fn name_in(alloc: Global, entry: Entry) -> Result<Octets, GreetEnd>
     ensures { NameOf result entry.msg }
 {
-    name_of(alloc, &entry.msg)
+    let name = name_of(alloc, &entry.msg);
+    drop(entry);
+    name
 }
 
 /// The name in a message, if it is a Hello.
@@ -131,7 +140,10 @@ fn name_of(alloc: Global, msg: &Msg) -> Result<Octets, GreetEnd>
     let mut bytes = Octets::new(alloc);
     match bytes.append(name.as_slice()) {
         Ok(()) => Ok(bytes),
-        Err(AllocError) => Err(GreetEnd::Memory),
+        Err(AllocError) => {
+            drop(bytes);
+            Err(GreetEnd::Memory)
+        }
     }
 }
 
@@ -221,7 +233,9 @@ fn open<W: Wait, C: SessionCore, G: Gate>(
         name,
         registered: false,
     };
-    act_once(worker, seat, &event, 1)
+    let outcome = act_once(worker, seat, &event, 1);
+    drop(event);
+    outcome
 }
 
 /// Writes the Welcome. If that fails the connection is closed, and the error is what came of the
@@ -245,7 +259,9 @@ fn welcome<W: Wait, C: SessionCore, S: Sink, G: Gate>(
             let event = Event::Close {
                 conn: greeting.conn,
             };
-            Err(act_once(worker, seat, &event, 2))
+            let outcome = act_once(worker, seat, &event, 2);
+            drop(event);
+            Err(outcome)
         }
     }
 }

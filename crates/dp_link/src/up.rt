@@ -87,7 +87,10 @@ pub fn run_up<W: Wait, C: SessionCore, R: Source, G: Gate>(
     };
     let end = say_all(worker, seat, rx, split, &mut speaker);
     let n = next_act(&mut speaker.acts);
-    let close = act_once(worker, seat, &Event::Close { conn }, n);
+    drop(speaker);
+    let event = Event::Close { conn };
+    let close = act_once(worker, seat, &event, n);
+    drop(event);
     UpRun { end, close }
 }
 
@@ -135,7 +138,10 @@ fn say_all<W: Wait, C: SessionCore, R: Source, G: Gate>(
     'messages: loop {
         match say_next(worker, seat, rx, &mut link, speaker) {
             Ok(()) => {}
-            Err(end) => return end,
+            Err(end) => {
+                drop(link);
+                return end;
+            }
         }
     }
 }

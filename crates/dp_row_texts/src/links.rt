@@ -1,5 +1,6 @@
 //! Links to come.
 
+use crate::keeping::filled;
 use crate::names::{Names, put_times, read_word};
 use crate::reading::put_numbers;
 use std::alloc::{AllocError, Global};
@@ -37,8 +38,8 @@ impl Coming {
     /// An equal link.
     pub fn copy(&self, alloc: Global) -> Result<Coming, AllocError> {
         let mut copy = Coming::new(Vec::new(alloc));
-        self.put_on(&mut copy)?;
-        Ok(copy)
+        let end = self.put_on(&mut copy);
+        filled(copy, end)
     }
 
     /// Adds all that this link has to another one.
@@ -107,7 +108,9 @@ impl Coming {
         let Some(part) = read_word(alloc, names, word)? else {
             return Ok(false);
         };
-        put_times(part.times, &part.bytes, &mut self.bytes)?;
+        let end = put_times(part.times, &part.bytes, &mut self.bytes);
+        drop(part);
+        end?;
         Ok(true)
     }
 }
@@ -122,8 +125,9 @@ pub fn put_link(
     let Some(links) = wires.last_mut() else {
         return Ok(false);
     };
-    let mut link = Coming::new(Vec::new(alloc));
-    let right = link.put_words(alloc, names, words)?;
-    links.push(link)?;
-    Ok(right)
+    links.push(Coming::new(Vec::new(alloc)))?;
+    match links.last_mut() {
+        Some(link) => link.put_words(alloc, names, words),
+        None => Ok(false),
+    }
 }

@@ -1,5 +1,6 @@
 //! Words of rows, and what they stand for.
 
+use crate::keeping::{both, filled};
 use crate::row::Part;
 use dp_lines::hex_of;
 use std::alloc::{AllocError, Global};
@@ -11,6 +12,17 @@ pub struct Names<'a> {
 }
 
 impl<'a> Names<'a> {
+    /// Adds a name with its text, and answers whether this has both.
+    pub fn put(&mut self, pair: &'a str) -> Result<bool, AllocError> {
+        match pair.split_once(' ') {
+            Some(pair) => {
+                self.pairs.push(pair)?;
+                Ok(true)
+            }
+            None => Ok(false),
+        }
+    }
+
     /// What the word stands for: the text of its name, or itself.
     pub fn text<'b>(&'b self, word: &'b str) -> &'b str {
         for pair in self.pairs.iter().rev() {
@@ -34,12 +46,14 @@ fn counted(word: &str) -> (u64, &str) {
 pub fn read_word(alloc: Global, names: &Names<'_>, word: &str) -> Result<Option<Part>, AllocError> {
     let (times, name) = counted(word);
     let mut bytes = Vec::new(alloc);
-    let right = put_digits(alloc, names.text(name), &mut bytes)?;
-    Ok(if right && times > 0 {
-        Some(Part { times, bytes })
+    let put = put_digits(alloc, names.text(name), &mut bytes);
+    let (bytes, right) = both(bytes, put)?;
+    if right && times > 0 {
+        Ok(Some(Part { times, bytes }))
     } else {
-        None
-    })
+        drop(bytes);
+        Ok(None)
+    }
 }
 
 /// Adds the bytes of what a name stands for, and answers whether it is hexadecimal.
@@ -52,7 +66,9 @@ fn put_digits(alloc: Global, text: &str, out: &mut Vec<u8>) -> Result<bool, Allo
         let Some(bytes) = hex_of(alloc, digits.as_bytes())? else {
             return Ok(false);
         };
-        put_times(times, &bytes, out)?;
+        let end = put_times(times, &bytes, out);
+        drop(bytes);
+        end?;
     }
     Ok(true)
 }
@@ -81,4 +97,12 @@ pub fn put_line(names: &Names<'_>, line: &str, out: &mut Vec<u8>) -> Result<(), 
     }
     out.push(b'\n')?;
     Ok(())
+}
+
+/// A line of text, once.
+pub fn line_of(alloc: Global, names: &Names<'_>, line: &str) -> Result<Part, AllocError> {
+    let mut bytes = Vec::new(alloc);
+    let end = put_line(names, line, &mut bytes);
+    let bytes = filled(bytes, end)?;
+    Ok(Part { times: 1, bytes })
 }

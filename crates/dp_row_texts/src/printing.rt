@@ -24,6 +24,14 @@ pub fn put_numbered(
     out.extend_from_slice(after)
 }
 
+/// Adds how often the gate was passed, if it was.
+pub fn put_passes(passes: u64, out: &mut Vec<u8>) -> Result<(), AllocError> {
+    if passes == 0 {
+        return Ok(());
+    }
+    put_numbered(b"passed ", passes, b"\n", out)
+}
+
 /// Adds that the line of this number has no form of a line.
 pub fn put_bad_row(line: u64, out: &mut Vec<u8>) -> Result<(), AllocError> {
     put_numbered(b"bad row at line ", line, b"\n", out)

@@ -1,6 +1,6 @@
 //! Tables of damaged links.
 
-use crate::names::{Names, put_line, read_word};
+use crate::names::{Names, line_of, read_word};
 use crate::row::Part;
 use std::alloc::{AllocError, Global};
 
@@ -112,17 +112,8 @@ fn put_step(
     let Ok(wanted) = wanted.parse::<usize>() else {
         return Ok(false);
     };
-    let bytes = match line.strip_prefix("x ") {
-        Some(word) => read_word(alloc, names, word)?,
-        None => Some(line_of(alloc, names, line)?),
-    };
-    match bytes {
-        Some(Part { times: _, bytes }) => {
-            let does = if line.starts_with("x ") {
-                Does::Send(bytes)
-            } else {
-                Does::Print(bytes)
-            };
+    match does_of(alloc, names, line)? {
+        Some(does) => {
             steps.push(Step { wanted, does })?;
             Ok(true)
         }
@@ -130,9 +121,24 @@ fn put_step(
     }
 }
 
-/// A line that is printed.
-fn line_of(alloc: Global, names: &Names<'_>, line: &str) -> Result<Part, AllocError> {
-    let mut bytes = Vec::new(alloc);
-    put_line(names, line, &mut bytes)?;
-    Ok(Part { times: 1, bytes })
+/// What a client does by a line, `None` if it is none.
+fn does_of(alloc: Global, names: &Names<'_>, line: &str) -> Result<Option<Does>, AllocError> {
+    match line.strip_prefix("x ") {
+        Some(word) => Ok(sent_of(read_word(alloc, names, word)?)),
+        None => Ok(Some(printed_of(line_of(alloc, names, line)?))),
+    }
+}
+
+/// What a client does that sends bytes, if there are some.
+fn sent_of(word: Option<Part>) -> Option<Does> {
+    match word {
+        Some(Part { times: _, bytes }) => Some(Does::Send(bytes)),
+        None => None,
+    }
+}
+
+/// What a client does that prints a line.
+fn printed_of(line: Part) -> Does {
+    let Part { times: _, bytes } = line;
+    Does::Print(bytes)
 }

@@ -3,7 +3,7 @@
 ghost use Rattle.std.specs.Prelude.{◌≤◌, length};
 
 use dp_lines::put_hex;
-use dp_row_texts::{Coming, Table, put_numbered};
+use dp_row_texts::{Coming, Table, filled, put_numbered};
 use std::alloc::{AllocError, Global};
 
 /// What is wrong with a link, and at which of its frames or calls.
@@ -26,6 +26,12 @@ pub enum Damage<'a> {
 /// The frames of a link.
 pub fn frames_of(alloc: Global, bytes: &[u8]) -> Result<Vec<&[u8]>, AllocError> {
     let mut frames = Vec::new(alloc);
+    let end = put_frames(bytes, &mut frames);
+    filled(frames, end)
+}
+
+/// Adds the frames of a link.
+fn put_frames<'a>(bytes: &'a [u8], frames: &mut Vec<&'a [u8]>) -> Result<(), AllocError> {
     let mut rest = bytes;
     for _ in 0..bytes.len() {
         if rest.is_empty() {
@@ -35,7 +41,7 @@ pub fn frames_of(alloc: Global, bytes: &[u8]) -> Result<Vec<&[u8]>, AllocError> 
         frames.push(frame)?;
         rest = after;
     }
-    Ok(frames)
+    Ok(())
 }
 
 /// How long the first frame is, as its head tells.
@@ -81,8 +87,8 @@ impl<'a> Damage<'a> {
         frames: &[&[u8]],
     ) -> Result<Coming, AllocError> {
         let mut damaged = link.copy(alloc)?;
-        self.put_on(frames, &mut damaged)?;
-        Ok(damaged)
+        let end = self.put_on(frames, &mut damaged);
+        filled(damaged, end)
     }
 
     /// Does this damage to a link of these frames.
@@ -134,8 +140,8 @@ pub fn damages_of<'a>(
     piece: usize,
 ) -> Result<Vec<Damage<'a>>, AllocError> {
     let mut damages = Vec::new(alloc);
-    put_damages(table, frames, piece, &mut damages)?;
-    Ok(damages)
+    let end = put_damages(table, frames, piece, &mut damages);
+    filled(damages, end)
 }
 
 /// Adds the damages of a link.

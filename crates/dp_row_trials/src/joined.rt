@@ -26,8 +26,20 @@ pub fn put_client_answer(
 ) -> Result<(), AllocError> {
     let limits = limits_of(frames, damage, piece);
     let mut sent = Vec::new(alloc);
-    take_steps(steps, limits, answer, &mut sent)?;
-    put_sent(&sent, &mut answer.sent)
+    let end = take_all(steps, limits, answer, &mut sent);
+    drop(sent);
+    end
+}
+
+/// Takes steps, and adds the line of what was sent.
+fn take_all(
+    steps: &[Step],
+    limits: Limits,
+    answer: &mut Answer,
+    sent: &mut Vec<u8>,
+) -> Result<(), AllocError> {
+    take_steps(steps, limits, answer, sent)?;
+    put_sent(sent, &mut answer.sent)
 }
 
 /// Adds the line of what was sent, with its newline before it.

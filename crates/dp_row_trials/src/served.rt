@@ -3,7 +3,7 @@
 use crate::damage::{Damage, frames_of, place_of, whole_within};
 use crate::joined::read_whole;
 use dp_lines::put_hex;
-use dp_row_texts::{Answer, Coming, Pause, Row, put_numbered, put_parts, put_passes};
+use dp_row_texts::{Answer, Coming, Pause, Row, both, filled, put_numbered, put_parts, put_passes};
 use std::alloc::{AllocError, Global};
 
 /// The length of a Welcome's frame.
@@ -96,7 +96,9 @@ impl Past {
     /// How many entries the history has.
     fn place(&self, alloc: Global) -> Result<u8, AllocError> {
         let frames = frames_of(alloc, &self.history)?;
-        Ok(u8::try_from(frames.len()).unwrap_or(u8::MAX))
+        let count = frames.len();
+        drop(frames);
+        Ok(u8::try_from(count).unwrap_or(u8::MAX))
     }
 
     /// Opens a connection for a Hello.
@@ -261,6 +263,17 @@ fn said_of<'a>(
     count: usize,
 ) -> Result<Vec<Said<'a>>, AllocError> {
     let mut said = Vec::new(alloc);
+    let end = put_first(frames, placed, count, &mut said);
+    filled(said, end)
+}
+
+/// Adds the first messages of frames.
+fn put_first<'a>(
+    frames: &[&'a [u8]],
+    placed: &'a [Vec<u8>],
+    count: usize,
+    said: &mut Vec<Said<'a>>,
+) -> Result<(), AllocError> {
     let count = count.min(frames.len()).min(placed.len());
     for k in 0..count {
         said.push(Said {
@@ -268,7 +281,7 @@ fn said_of<'a>(
             placed: &placed[k],
         })?;
     }
-    Ok(said)
+    Ok(())
 }
 
 /// What a painter says over a link with this damage.
@@ -281,7 +294,8 @@ fn talk_of<'a>(
 ) -> Result<Talk<'a>, AllocError> {
     let (count, room) = count_and_room(frames, damage, piece);
     let mut said = said_of(alloc, frames, placed, count)?;
-    put_said(damage, &mut said)?;
+    let put = put_said(damage, &mut said);
+    let said = filled(said, put)?;
     let leave = match placed.last() {
         Some(frames) => frames.as_slice(),
         None => &[],
@@ -349,12 +363,15 @@ pub fn put_server_answer<'a>(
         return Ok(());
     };
     let one = talk_of(alloc, frames, placed, damage, piece)?;
-    let two = whole_talk(alloc, whole_link(&row.wires), others, piece)?;
-    put_both(alloc, &one, &two, wires, answer)
+    let two = whole_talk(alloc, whole_link(&row.wires), others, piece);
+    let talks = both(one, two)?;
+    let end = put_talks(alloc, &talks.0, &talks.1, wires, answer);
+    drop(talks);
+    end
 }
 
 /// The same, if this is what the painters say.
-fn put_both(
+fn put_talks(
     alloc: Global,
     one: &Talk<'_>,
     two: &Talk<'_>,
@@ -362,6 +379,20 @@ fn put_both(
     answer: &mut Answer,
 ) -> Result<(), AllocError> {
     let mut past = Past::new(alloc)?;
+    let end = put_past(alloc, one, two, wires, answer, &mut past);
+    drop(past);
+    end
+}
+
+/// The same after what the links left so far.
+fn put_past(
+    alloc: Global,
+    one: &Talk<'_>,
+    two: &Talk<'_>,
+    wires: &mut [Vec<Coming>],
+    answer: &mut Answer,
+    past: &mut Past,
+) -> Result<(), AllocError> {
     if wires.len() < 2 {
         past.serve_in_turn(alloc, one, two, answer)?;
     } else {
@@ -379,7 +410,9 @@ fn whole_talk<'a>(
     piece: usize,
 ) -> Result<Talk<'a>, AllocError> {
     let frames = frames_of(alloc, bytes)?;
-    talk_of(alloc, &frames, placed, Damage::Cut(usize::MAX), piece)
+    let talk = talk_of(alloc, &frames, placed, Damage::Cut(usize::MAX), piece);
+    drop(frames);
+    talk
 }
 
 /// The bytes of the link that is whole: the last one.

@@ -6,9 +6,10 @@ ghost use Rattle.std.specs.Prelude.{◌≤◌};
 use dp_app_runs::{Host, Left, Resources, outcome_over};
 use dp_io::MemSink;
 use dp_keeper::MemKeeper;
-use dp_row_texts::{
-    Answer, Coming, Fail, LinkFails, Object, Row, RowGate, RowSource, RowWire, RowWires, Sent,
-    Told, keeper_of, put_gate, put_kept, put_parts, put_sent_on, put_told, wires_of,
+use dp_row_texts::{Answer, Coming, Fail, Object, Row, put_parts};
+use dp_row_wires::{
+    LinkFails, RowGate, RowSource, RowWire, RowWires, Sent, Told, keeper_of, put_gate, put_kept,
+    put_sent_on, put_told, wires_of,
 };
 use std::alloc::{AllocError, Global};
 use std::sync::Wait;

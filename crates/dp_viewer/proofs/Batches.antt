@@ -92,17 +92,18 @@ ends-memory way None left board = tt
 ends-memory way (Some bytes) left board = tt
 
 -- some acts more are drawn
-pub drawn-further : (on after : Board) (done next : ℕ) (acts : List (KeptAct Draw)) → done ≤ next
-    → after ≡ fold draw on (drawn_among (take (next - done) (drop done acts)))
-    → fold draw after (drawn_among (drop next acts)) ≡ fold draw on (drawn_among (drop done acts))
-drawn-further on after done next acts within is =
+pub drawn-further : (on after all : Board) (done next : ℕ) (acts : List (KeptAct Draw))
+    → done ≤ next → after ≡ fold draw on (drawn_among (take (next - done) (drop done acts)))
+    → fold draw on (drawn_among (drop done acts)) ≡ all
+    → fold draw after (drawn_among (drop next acts)) ≡ all
+drawn-further on after all done next acts within is comes =
     let n : ℕ = next - done in
     let rest : drop n (drop done acts) ≡ drop next acts =
     drop-drop n done acts ∙ ap (λ k. drop k acts) (omega (arith, within)) in
     ap (λ b. fold draw b (drawn_among (drop next acts))) is
     ∙ ap (λ xs. fold draw (fold draw on (drawn_among (take n (drop done acts)))) (drawn_among xs))
     (sym rest)
-    ∙ drawn-more on n (drop done acts)
+    ∙ drawn-more on n (drop done acts) ∙ comes
 
 -- after a mark of a reset the board that was held trails, and nothing is to be drawn on it
 pub goes-marked : (was now : Trailing Board Draw) (blank on : Board) (acts : List (KeptAct Draw))

@@ -13,7 +13,7 @@ ghost use Rattle.dp_viewer.specs.Reading.{AreDue, EndsReading, FaultMatchesWay, 
 ghost use Rattle.dp_viewer.specs.Reading.{TrailsShown};
 ghost use Rattle.dp_viewer.specs.Ways.{first_of, play_way};
 
-use crate::reading::{ShownBoard, blank_board, reads_to_end, take_due};
+use crate::reading::{ShownBoard, begin_anew, reads_to_end, take_due};
 use crate::workers::WorkersBoard;
 use dp_canvas::{DeferredBoard, Workers, settle_half_full};
 use dp_io::Source;
@@ -99,8 +99,8 @@ fn hold(alloc: Global, board: &mut ShownBoard, entry: Entry) -> Result<bool, All
         (all ++ entry ∷ [])) }
 {
     if entry.msg.is_reset_mark() {
-        let blank = blank_board(alloc)?;
-        *board = blank;
+        drop(entry);
+        begin_anew(alloc, board)?;
         Ok(true)
     } else {
         let act = act_of_entry(entry);
@@ -127,6 +127,7 @@ fn hold_due(
     if take_due(due) {
         hold(alloc, board, entry)
     } else {
+        drop(entry);
         Ok(false)
     }
 }
@@ -246,15 +247,14 @@ impl Behind {
             (fold draw self.new.board (drawn_among self.new.ready.items)) board.new) entries) }
     {
         if marked {
-            let blank = DeferredBoard::new(alloc);
-            self.board = board.put_board(blank);
-            let ready = Vec::new(alloc);
-            self.ready = ready;
+            let held = board.put_board(DeferredBoard::new(alloc));
+            drop(replace(&mut self.board, held));
+            self.ready.clear();
         } else {
             let mut room = replace(&mut self.ready, Vec::new(alloc));
             room.clear();
             let ready = board.give_settled(room)?;
-            self.ready = ready;
+            drop(replace(&mut self.ready, ready));
         }
         Ok(())
     }
@@ -410,9 +410,19 @@ fn put_back<'a, R, G>(
     ensures end { result.end ≡ end }
 {
     let Crew { rt, workers, .. } = crew;
-    let Ahead { mut board, due, .. } = ahead;
-    let Behind { board: drawn, .. } = behind;
-    let _blank = board.put_board(drawn);
+    let Ahead {
+        reader,
+        mut board,
+        due,
+    } = ahead;
+    drop(reader);
+    let Behind {
+        board: drawn,
+        ready,
+        ..
+    } = behind;
+    drop(ready);
+    drop(board.put_board(drawn));
     let shown = WorkersBoard {
         board,
         due,

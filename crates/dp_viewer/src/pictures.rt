@@ -52,6 +52,7 @@ pub fn run_replay<I: Source, O: Sink, D: Ledger, T: Ledger>(
     if reads_to_end(end) {
         write_shown(alloc, board, output, end, draws, tiles)
     } else {
+        drop(board);
         end
     }
 }
@@ -90,6 +91,7 @@ pub fn run_play<R: Threads + Sync, I: Source, O: Sink, G: Gate, D: Ledger + Send
     if reads_to_end(end) {
         shown.write(alloc, output, end, draws, tiles)
     } else {
+        drop(shown);
         end
     }
 }
@@ -134,8 +136,17 @@ fn write_shown<O: Sink, D: Ledger, T: Ledger>(
         return RunEnd::Memory;
     };
     match write_p6(alloc, &picture, output) {
-        Ok(()) => end,
-        Err(PictureEnd::Failed) => RunEnd::WriteFault,
-        Err(PictureEnd::Memory) => RunEnd::Memory,
+        Ok(()) => {
+            drop(picture);
+            end
+        }
+        Err(PictureEnd::Failed) => {
+            drop(picture);
+            RunEnd::WriteFault
+        }
+        Err(PictureEnd::Memory) => {
+            drop(picture);
+            RunEnd::Memory
+        }
     }
 }

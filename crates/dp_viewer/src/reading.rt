@@ -21,6 +21,7 @@ use dp_steps::Steps;
 use dp_trailing::TrailingBoard;
 use dp_wire::Gate;
 use std::alloc::{AllocError, Global};
+use std::mem::replace;
 use std::sync::ledger::Ledger;
 use std::thread::Threads;
 
@@ -66,10 +67,12 @@ pub(crate) fn read_frames<I: Source, D: Ledger, T: Ledger>(
         match reader.fill(input) {
             Ok(true) => {}
             Ok(false) => {
+                drop(reader);
                 let end = RunEnd::Done;
                 return Reading { board, end };
             }
             Err(end) => {
+                drop(reader);
                 let end = end.run_end();
                 return Reading { board, end };
             }
@@ -77,15 +80,26 @@ pub(crate) fn read_frames<I: Source, D: Ledger, T: Ledger>(
         let shown = match reader.take(alloc) {
             Ok(entry) => show(alloc, &mut board, entry, draws, tiles),
             Err(why) => {
+                drop(reader);
                 let end = why.run_end();
                 return Reading { board, end };
             }
         };
         if shown.is_err() {
+            drop(reader);
             let end = RunEnd::Memory;
             return Reading { board, end };
         }
     }
+}
+
+/// Begins anew: the board of no entries in the place of this one.
+pub(crate) fn begin_anew(alloc: Global, board: &mut ShownBoard) -> Result<(), AllocError>
+    ensures { OnOk result (TrailsShown board.new []) }
+{
+    let blank = blank_board(alloc)?;
+    drop(replace(board, blank));
+    Ok(())
 }
 
 /// Shows the next entry. A mark of a reset begins anew: all before it shows nothing from there on.
@@ -101,8 +115,8 @@ fn show<D: Ledger, T: Ledger>(
         → TrailsShown board.new (all ++ entry ∷ [])) }
 {
     if entry.msg.is_reset_mark() {
-        *board = blank_board(alloc)?;
-        Ok(())
+        drop(entry);
+        begin_anew(alloc, board)
     } else {
         board.take(act_of_entry(entry), draws, tiles)
     }
@@ -129,10 +143,17 @@ pub(crate) fn read_recording<R: Threads + Sync, I: Source, G: Gate, D: Ledger, T
     'entries: loop {
         let entry = match reader.next(alloc, input) {
             Ok(Some(entry)) => entry,
-            Ok(None) => return RunEnd::Done,
-            Err(error) => return error.run_end(),
+            Ok(None) => {
+                drop(reader);
+                return RunEnd::Done;
+            }
+            Err(error) => {
+                drop(reader);
+                return error.run_end();
+            }
         };
         if show_due(alloc, &mut shown.board, &mut shown.due, entry, draws, tiles).is_err() {
+            drop(reader);
             return RunEnd::Memory;
         }
     }
@@ -157,6 +178,7 @@ fn show_due<D: Ledger, T: Ledger>(
     if take_due(due) {
         show(alloc, board, entry, draws, tiles)
     } else {
+        drop(entry);
         Ok(())
     }
 }

@@ -78,9 +78,18 @@ impl<'a, R: Threads + Sync, G: Gate> WorkersBoard<'a, R, G> {
             return RunEnd::Memory;
         };
         match write_p6_by(rt, alloc, count, gate, &picture, output) {
-            Ok(()) => end,
-            Err(PictureEnd::Failed) => RunEnd::WriteFault,
-            Err(PictureEnd::Memory) => RunEnd::Memory,
+            Ok(()) => {
+                drop(picture);
+                end
+            }
+            Err(PictureEnd::Failed) => {
+                drop(picture);
+                RunEnd::WriteFault
+            }
+            Err(PictureEnd::Memory) => {
+                drop(picture);
+                RunEnd::Memory
+            }
         }
     }
 }

@@ -13,4 +13,5 @@ by_outcome name (Ok answer) step = opens-with name false answer step
 by_outcome name (Err error) step = tt
 
 pub returns-clause-answer : goal.returns-clause-answer
-returns-clause-answer g c = by_outcome c.args.name c.act_once.result c.act_once.ensures.step
+returns-clause-answer g c = by_outcome c.args.name c.act_once-outcome.result
+    c.act_once-outcome.ensures.step

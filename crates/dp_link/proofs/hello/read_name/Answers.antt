@@ -12,10 +12,10 @@ returns-in-Ok-Some-clause-reads g c =
     let few =
     few-first link.stream c.next.new.self.stream
     (c.reader_of-link.ensures.stream ∙ c.requires.fresh) c.next.ensures.few in
-    rw c.into_splitter.ensures
+    rw c.replace.ensures.after (rw c.into_splitter.ensures
     (name-read (given left _ [] begun)
     (c.next.ensures.source.limit ∙ c.reader_of-link.ensures.limit) few c.name_in.result
-    c.one_answer.ensures.entry c.name_in.ensures)
+    c.one_answer.ensures.entry c.name_in.ensures))
 
 pub returns-in-Ok-None-clause-reads : goal.returns-in-Ok-None-clause-reads
 returns-in-Ok-None-clause-reads g c =

@@ -16,10 +16,9 @@ loop-done-preserved g c =
     let next = done + c.min.result in
     record {
       inside = omega arith;
-      drawn = drawn-further c.loop-done.board c.settle_half_full.new.board done next
+      drawn = drawn-further c.loop-done.board c.settle_half_full.new.board _ done next
           c.args.acts.now (omega arith)
-          (c.settle_half_full.ensures.same ∙ c.in_ok-draw_kept.ensures.board)
-          ∙ inv.drawn;
+          (c.settle_half_full.ensures.same ∙ c.in_ok-draw_kept.ensures.board) inv.drawn;
     }
 
 pub returns : goal.returns

@@ -9,11 +9,12 @@ use Rattle.dp_viewer.proofs.Batches.{on-own}
 use Rattle.dp_viewer.proofs.Showing.{TrailsShown-entry, TrailsShown-mark}
 use Rattle.dp_viewer.proofs.ahead.hold.Goals as goal
 
-pub returns-in_ok-blank : goal.returns-in_ok-blank
-returns-in_ok-blank c = λ all on trails.
-    on-own c.in_ok-blank.blank (all ++ c.args.entry ∷ [])
-    (TrailsShown-mark c.in_ok-blank.blank all c.args.entry
-    (sym c.is_reset_mark.ensures ∙ c.if-is_reset_mark.true) c.in_ok-blank.ensures)
+pub returns-in_ok-begin_anew : goal.returns-in_ok-begin_anew
+returns-in_ok-begin_anew c = λ all on trails.
+    let now = c.begin_anew.new.board in
+    on-own now (all ++ c.args.entry ∷ [])
+    (TrailsShown-mark now all c.args.entry
+    (sym c.is_reset_mark.ensures ∙ c.if-is_reset_mark.true) c.in_ok-begin_anew.ensures)
 
 pub returns-in_ok-hold : goal.returns-in_ok-hold
 returns-in_ok-hold c = λ all on trails.

@@ -5,8 +5,15 @@ use Rattle.dp_msg_draw.specs.declared.draw.Draw.{Draw}
 use Rattle.dp_plain.specs.Board.{Board}
 use Rattle.dp_plain.specs.Commands.{draw}
 use Rattle.dp_trailing.specs.Trailing.{Trails}
-use Rattle.dp_viewer.proofs.Showing.{TrailsShown-entry}
+use Rattle.dp_viewer.proofs.Showing.{TrailsShown-entry, TrailsShown-mark}
 use Rattle.dp_viewer.proofs.reading.show.Goals as goal
+
+pub returns-then-is_reset_mark : goal.returns-then-is_reset_mark
+returns-then-is_reset_mark g c =
+    on_ok_weaker c.begin_anew.result (λ blank all trails.
+    TrailsShown-mark c.begin_anew.new.board all c.args.entry
+    (sym c.is_reset_mark.ensures ∙ c.if-is_reset_mark.true) blank)
+    c.begin_anew.ensures
 
 pub returns-else-is_reset_mark : goal.returns-else-is_reset_mark
 returns-else-is_reset_mark g c =

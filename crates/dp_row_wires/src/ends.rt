@@ -2,9 +2,9 @@
 
 ghost use Rattle.std.specs.Prelude.{◌≡◌, ◌≤◌, None, length};
 
-use crate::links::{Coming, Pause};
 use crate::wires::LinkFails;
 use dp_io::{Failed, FaultPlan, MemSink, Sink, Source};
+use dp_row_texts::{Coming, Pause, both, filled};
 use std::alloc::{AllocError, Global};
 use std::sync::Arc;
 use std::sync::atomic::{AtomicU64, Ordering};
@@ -27,9 +27,8 @@ impl Sent {
     /// Nothing was sent so far on `links` links.
     pub fn new(alloc: Global, links: usize) -> Result<Arc<Sent>, AllocError> {
         let mut counts = Vec::new(alloc);
-        for _ in 0..links {
-            counts.push(AtomicU64::new(0))?;
-        }
+        let end = put_counts(links, &mut counts);
+        let counts = filled(counts, end)?;
         let gave_up = AtomicU64::new(0);
         Ok(Arc::new(alloc, Sent { counts, gave_up })?)
     }
@@ -66,6 +65,14 @@ impl Sent {
     }
 }
 
+/// Adds the counts of `links` links.
+fn put_counts(links: usize, counts: &mut Vec<AtomicU64>) -> Result<(), AllocError> {
+    for _ in 0..links {
+        counts.push(AtomicU64::new(0))?;
+    }
+    Ok(())
+}
+
 /// What the peer of a row's link sends. It tells none of its bytes.
 #[derive(Drop)]
 pub struct RowRx {
@@ -78,6 +85,12 @@ pub struct RowRx {
 }
 
 impl RowRx {
+    /// Adds the bytes of a link, and its pauses.
+    fn fill(&mut self, coming: &Coming) -> Result<(), AllocError> {
+        self.bytes.extend_from_slice(&coming.bytes)?;
+        self.pauses.extend_from_slice(&coming.pauses)
+    }
+
     /// Waits for the pauses at its place.
     fn pause(&self) {
         for pause in &self.pauses {
@@ -168,7 +181,7 @@ pub fn ends_of(
     requires { 1 ≤ piece }
 {
     let tx = tx_of(alloc, coming, &fails.writes, link, piece, sent)?;
-    let rx = rx_of(alloc, coming, &fails.reads, piece, sent)?;
+    let (tx, rx) = both(tx, rx_of(alloc, coming, &fails.reads, piece, sent))?;
     Ok((rx, tx))
 }
 
@@ -180,18 +193,18 @@ fn rx_of(
     piece: usize,
     sent: &Arc<Sent>,
 ) -> Result<RowRx, AllocError> {
-    let sent = sent.clone()?;
-    let bytes = Vec::from_slice(alloc, &coming.bytes)?;
-    let pauses = Vec::from_slice(alloc, &coming.pauses)?;
-    let reads = both_of(alloc, &coming.reads, fails)?;
-    Ok(RowRx {
-        bytes,
+    let reads = calls_of(alloc, &coming.reads, fails)?;
+    let (reads, sent) = both(reads, sent.clone())?;
+    let mut rx = RowRx {
+        bytes: Vec::new(alloc),
         at: 0,
         piece,
-        pauses,
+        pauses: Vec::new(alloc),
         sent,
         plan: FaultPlan::new(reads),
-    })
+    };
+    let end = rx.fill(coming);
+    filled(rx, end)
 }
 
 /// The end that is written, on which these writes fail, too.
@@ -205,15 +218,15 @@ fn tx_of(
 ) -> Result<RowTx, AllocError>
     requires { 1 ≤ piece }
 {
-    let writes = both_of(alloc, &coming.writes, fails)?;
+    let writes = calls_of(alloc, &coming.writes, fails)?;
     let sink = MemSink::new(alloc, ROOM, piece, writes)?;
-    let sent = sent.clone()?;
+    let (sink, sent) = both(sink, sent.clone())?;
     Ok(RowTx { sink, link, sent })
 }
 
 /// The numbers of both lists.
-fn both_of(alloc: Global, calls: &[u64], others: &[u64]) -> Result<Vec<u64>, AllocError> {
-    let mut both = Vec::from_slice(alloc, calls)?;
-    both.extend_from_slice(others)?;
-    Ok(both)
+fn calls_of(alloc: Global, calls: &[u64], others: &[u64]) -> Result<Vec<u64>, AllocError> {
+    let mut all = Vec::from_slice(alloc, calls)?;
+    let end = all.extend_from_slice(others);
+    filled(all, end)
 }

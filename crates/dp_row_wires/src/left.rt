@@ -1,9 +1,9 @@
 //! What a server leaves.
 
 use crate::gate::RowGate;
-use crate::printing::{put_numbered, put_parts};
 use dp_keeper::{MemKeeper, Row, RowBytes, Rows};
 use dp_lines::put_hex;
+use dp_row_texts::{both, filled, put_numbered, put_parts, put_passes};
 use std::alloc::{AllocError, Global};
 use std::fmt::Debug;
 
@@ -39,7 +39,9 @@ fn put_ends<U: Debug, D: Debug>(
     out: &mut Vec<u8>,
 ) -> Result<(), AllocError> {
     let ends = format!(in alloc; " up {up:?} down {down:?}\n")?;
-    out.extend_from_slice(ends.as_bytes())
+    let end = out.extend_from_slice(ends.as_bytes());
+    drop(ends);
+    end
 }
 
 /// Adds a line for each row that a store holds.
@@ -61,14 +63,6 @@ pub fn put_gate(gate: &RowGate, out: &mut Vec<u8>) -> Result<(), AllocError> {
     Ok(())
 }
 
-/// Adds how often the gate was passed, if it was.
-pub fn put_passes(passes: u64, out: &mut Vec<u8>) -> Result<(), AllocError> {
-    if passes == 0 {
-        return Ok(());
-    }
-    put_numbered(b"passed ", passes, b"\n", out)
-}
-
 /// A store of rows of these bytes. The calls of `rows` and of `put` with these numbers fail, and a
 /// put that fails loses its row.
 pub fn keeper_of(
@@ -77,18 +71,24 @@ pub fn keeper_of(
     reads: Vec<u64>,
     puts: &[u64],
 ) -> Result<MemKeeper, AllocError> {
-    let lost = lost_puts(alloc, puts)?;
-    let rows = rows_of(alloc, kept)?;
+    let (reads, lost) = both(reads, lost_puts(alloc, puts))?;
+    let ((reads, lost), rows) = both((reads, lost), rows_of(alloc, kept))?;
     Ok(MemKeeper::new(rows, lost, reads))
 }
 
 /// Rows of these bytes.
 fn rows_of(alloc: Global, kept: &[Vec<u8>]) -> Result<Rows, AllocError> {
     let mut rows = Rows::new(alloc);
+    let end = put_rows(alloc, kept, &mut rows);
+    filled(rows, end)
+}
+
+/// Adds rows of these bytes.
+fn put_rows(alloc: Global, kept: &[Vec<u8>], rows: &mut Rows) -> Result<(), AllocError> {
     for (n, bytes) in kept.iter().enumerate() {
         rows.push(row_of(alloc, n as u64, bytes)?)?;
     }
-    Ok(rows)
+    Ok(())
 }
 
 /// The row of a number, of these bytes.
@@ -100,8 +100,14 @@ fn row_of(alloc: Global, n: u64, bytes: &[u8]) -> Result<Row, AllocError> {
 /// The puts that fail and lose their rows.
 fn lost_puts(alloc: Global, puts: &[u64]) -> Result<Vec<(u64, bool)>, AllocError> {
     let mut lost = Vec::new(alloc);
+    let end = put_lost(puts, &mut lost);
+    filled(lost, end)
+}
+
+/// Adds puts that lose their rows.
+fn put_lost(puts: &[u64], lost: &mut Vec<(u64, bool)>) -> Result<(), AllocError> {
     for put in puts {
         lost.push((*put, false))?;
     }
-    Ok(lost)
+    Ok(())
 }

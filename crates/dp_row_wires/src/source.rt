@@ -2,8 +2,8 @@
 
 ghost use Rattle.std.specs.Prelude.{◌≤◌, None, length};
 
-use crate::row::Part;
 use dp_io::{Failed, FaultPlan, Source};
+use dp_row_texts::Part;
 
 /// The parts of an input that are left.
 #[derive(Drop)]

@@ -3,9 +3,9 @@
 ghost use Rattle.std.specs.Prelude.{◌-◌, ◌≤◌, None, vec_len, vec_capacity};
 
 use crate::ends::{RowRx, RowTx, Sent, ends_of};
-use crate::links::Coming;
 use dp_io::FaultPlan;
 use dp_lines::put_hex;
+use dp_row_texts::{Coming, both, filled};
 use dp_wire::{Wire, WireError};
 use std::alloc::{AllocError, Global};
 use std::collections::VecDeque;
@@ -96,8 +96,12 @@ pub fn wires_of(
     requires { 1 ≤ piece }
 {
     let sent = Sent::new(alloc, count_of(links))?;
-    let wires = wires_into(alloc, links, piece, fails, &sent)?;
-    Ok(RowWires { wires, sent })
+    let mut made = RowWires {
+        wires: Vec::new(alloc),
+        sent,
+    };
+    let end = made.put_wires(alloc, links, piece, fails);
+    filled(made, end)
 }
 
 /// How many links there are.
@@ -109,23 +113,25 @@ fn count_of(links: &[Vec<Coming>]) -> usize {
     count
 }
 
-/// The wires, whose links note here what they were sent.
-fn wires_into(
-    alloc: Global,
-    links: &[Vec<Coming>],
-    piece: usize,
-    fails: &LinkFails,
-    sent: &Arc<Sent>,
-) -> Result<Vec<RowWire>, AllocError>
-    requires { 1 ≤ piece }
-{
-    let mut wires = Vec::new(alloc);
-    let mut first = 0;
-    for coming in links {
-        wires.push(wire_of(alloc, coming, first, piece, fails, sent)?)?;
-        first = first.saturating_add(coming.len());
+impl RowWires {
+    /// Adds the wires of these links, which note what they were sent.
+    fn put_wires(
+        &mut self,
+        alloc: Global,
+        links: &[Vec<Coming>],
+        piece: usize,
+        fails: &LinkFails,
+    ) -> Result<(), AllocError>
+        requires { 1 ≤ piece }
+    {
+        let mut first = 0;
+        for coming in links {
+            let wire = wire_of(alloc, coming, first, piece, fails, &self.sent)?;
+            self.wires.push(wire)?;
+            first = first.saturating_add(coming.len());
+        }
+        Ok(())
     }
-    Ok(wires)
 }
 
 /// The wire of links, of which the first has this number.
@@ -140,28 +146,30 @@ fn wire_of(
     requires { 1 ≤ piece }
 {
     let dials = Vec::from_slice(alloc, &fails.dials)?;
-    let pairs = pairs_of(alloc, links, first, piece, fails, sent)?;
+    let mut pairs = Vec::new(alloc);
+    let end = put_pairs(links, first, piece, fails, sent, &mut pairs);
+    let (dials, pairs) = both(dials, filled(pairs, end))?;
     Ok(RowWire::new(pairs, dials))
 }
 
-/// The ends of links, of which the first has this number.
-fn pairs_of(
-    alloc: Global,
+/// Adds the ends of links, of which the first has this number.
+fn put_pairs(
     links: &[Coming],
     first: usize,
     piece: usize,
     fails: &LinkFails,
     sent: &Arc<Sent>,
-) -> Result<Vec<(RowRx, RowTx)>, AllocError>
+    pairs: &mut Vec<(RowRx, RowTx)>,
+) -> Result<(), AllocError>
     requires { 1 ≤ piece }
 {
-    let mut pairs = Vec::new(alloc);
+    let alloc = *pairs.allocator();
     let mut link = first;
     for coming in links {
         pairs.push(ends_of(alloc, coming, fails, link, piece, sent)?)?;
         link = link.saturating_add(1);
     }
-    Ok(pairs)
+    Ok(())
 }
 
 /// Adds what was sent on links that came back: a line for each, with its newline before it.
