@@ -2,7 +2,8 @@
 
 ghost use Rattle.std.specs.Prelude.{◌≡◌, ◌<◌};
 
-use dp_board::{Act, Change, NumberBoard, SetNumber, UserAct, drawn_flags};
+use crate::numbers::{NUMBERS, check, numbers_of, replayed, set};
+use dp_board::{Act, Change, NumberBoard, SetNumber, UserAct};
 use dp_fork::{Fork, Own};
 use dp_rollback::Rollback;
 use dp_steps::Steps;
@@ -11,9 +12,6 @@ use std::collections::VecDeque;
 use std::marker::Brand;
 use std::process::Abort;
 use std::sync::ledger::{Blank, Ledger};
-
-/// How many numbers the row has.
-const NUMBERS: usize = 8;
 
 /// The context id of the painter whose fork it is.
 const SELF: u8 = 1;
@@ -62,43 +60,12 @@ struct Painter {
     said: VecDeque<Word>,
 }
 
-/// Sets a number, if there is one.
-fn set(numbers: &mut [u64; NUMBERS], op: &SetNumber) {
-    if op.place < NUMBERS {
-        numbers[op.place] = op.value;
-    }
-}
-
-/// The numbers by the plain rule: the commands of the acts taken that are drawn, and then those of
-/// the words said.
-fn wanted(rt: &impl Abort, alloc: Global, painter: &Painter) -> [u64; NUMBERS] {
-    let mut numbers = [0; NUMBERS];
-    let flags = drawn_flags(alloc, 30, &painter.taken).expect(rt, "memory");
-    for (act, drawn) in painter.taken.iter().zip(flags.as_slice()) {
-        if let Act::Draw(op) = &act.act
-            && *drawn
-        {
-            set(&mut numbers, op);
-        }
-    }
-    numbers
-}
-
 /// The numbers with the commands of the words said.
 fn with_said(mut numbers: [u64; NUMBERS], said: &VecDeque<Word>) -> [u64; NUMBERS] {
     for word in said {
         if let Act::Draw(op) = word.act() {
             set(&mut numbers, &op);
         }
-    }
-    numbers
-}
-
-/// The numbers of a board.
-fn numbers_of(rt: &impl Abort, board: &NumberBoard) -> [u64; NUMBERS] {
-    let mut numbers = [0; NUMBERS];
-    for place in 0..NUMBERS {
-        numbers[place] = board.get(place).expect(rt, "a number");
     }
     numbers
 }
@@ -253,13 +220,8 @@ fn step<D: Ledger, T: Ledger>(
 /// What is seen is what the plain rule says, and so is how many words aren't answered.
 fn is_as_wanted(rt: &impl Abort, alloc: Global, painter: &Painter) -> bool {
     let view = painter.fork.view(painter.confirmed.board());
-    let numbers = with_said(wanted(rt, alloc, painter), &painter.said);
+    let numbers = with_said(replayed(rt, alloc, 30, &painter.taken), &painter.said);
     painter.fork.pending_len() == painter.said.len() && numbers_of(rt, view) == numbers
-}
-
-/// The test ends if this doesn't hold after a word of a script.
-fn check(rt: &impl Abort, holds: bool, word: &str, script: &str) {
-    assert!(rt; holds, "after {word} in {script}");
 }
 
 /// Runs a script, and compares what is seen with the plain rule after each word.
@@ -318,27 +280,12 @@ fn check_all<D: Ledger, T: Ledger>(
     let mut draws = Steps::<D>::new(draw_blank);
     let mut tiles = Steps::<T>::new(tile_blank);
     for script in &SCRIPTS {
-        check_script(
-            rt,
-            alloc,
-            (*script, Quietly::Settles),
-            &mut draws,
-            &mut tiles,
-        );
-        check_script(
-            rt,
-            alloc,
-            (*script, Quietly::Answers),
-            &mut draws,
-            &mut tiles,
-        );
-        check_script(
-            rt,
-            alloc,
-            (*script, Quietly::Follows),
-            &mut draws,
-            &mut tiles,
-        );
+        let row = (*script, Quietly::Settles);
+        check_script(rt, alloc, row, &mut draws, &mut tiles);
+        let row = (*script, Quietly::Answers);
+        check_script(rt, alloc, row, &mut draws, &mut tiles);
+        let row = (*script, Quietly::Follows);
+        check_script(rt, alloc, row, &mut draws, &mut tiles);
     }
 }
 

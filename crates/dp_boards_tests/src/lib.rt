@@ -5,6 +5,8 @@
 #[cfg(test)]
 mod forks;
 #[cfg(test)]
+mod numbers;
+#[cfg(test)]
 mod rollbacks;
 #[cfg(test)]
 mod screens;

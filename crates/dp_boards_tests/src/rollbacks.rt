@@ -2,7 +2,8 @@
 
 ghost use Rattle.std.specs.Prelude.{◌≡◌, ◌<◌};
 
-use dp_board::{Act, Change, NumberBoard, SetNumber, UserAct, drawn_flags};
+use crate::numbers::{NUMBERS, check, numbers_of, replayed};
+use dp_board::{Act, Change, NumberBoard, SetNumber, UserAct};
 use dp_rollback::{Rollback, few_are_due};
 use dp_steps::Steps;
 use dp_trailing::TrailingBoard;
@@ -10,9 +11,6 @@ use std::alloc::{AllocError, Global};
 use std::marker::Brand;
 use std::process::Abort;
 use std::sync::ledger::{Blank, Ledger};
-
-/// How many numbers the row has.
-const NUMBERS: usize = 8;
 
 /// What the letter S sets the depth to, by its digit.
 static DEPTHS: [u8; 4] = [1, 2, 30, 255];
@@ -42,35 +40,6 @@ fn act_of(rt: &impl Abort, word: &str, place: usize) -> UserAct<SetNumber> {
         _ => Act::Other,
     };
     UserAct { user, act }
-}
-
-/// The numbers after the commands that are drawn.
-fn replayed(
-    rt: &impl Abort,
-    alloc: Global,
-    depth: u32,
-    acts: &[UserAct<SetNumber>],
-) -> [u64; NUMBERS] {
-    let mut numbers = [0; NUMBERS];
-    let flags = drawn_flags(alloc, depth, acts).expect(rt, "memory");
-    for (act, drawn) in acts.iter().zip(flags.as_slice()) {
-        if let Act::Draw(op) = &act.act
-            && *drawn
-            && op.place < NUMBERS
-        {
-            numbers[op.place] = op.value;
-        }
-    }
-    numbers
-}
-
-/// The numbers of a board.
-fn numbers_of(rt: &impl Abort, board: &NumberBoard) -> [u64; NUMBERS] {
-    let mut numbers = [0; NUMBERS];
-    for place in 0..NUMBERS {
-        numbers[place] = board.get(place).expect(rt, "a number");
-    }
-    numbers
 }
 
 /// A rollback of a blank row of numbers.
@@ -107,11 +76,6 @@ fn has_letter(change: Change, place: usize, letters: Option<&str>) -> bool {
         Some(letters) => letters.as_bytes().get(place) == Some(&letter(change)),
         None => true,
     }
-}
-
-/// The test ends if this doesn't hold after a word of a script.
-fn check(rt: &impl Abort, holds: bool, word: &str, script: &str) {
-    assert!(rt; holds, "after {word} in {script}");
 }
 
 /// Takes the acts of a script one by one, and compares the numbers with the replay after each. The
@@ -240,22 +204,15 @@ fn put_script<D: Ledger, T: Ledger>(
 fn check_memory<D: Ledger, T: Ledger>(
     rt: &impl Abort,
     alloc: Global,
-    draw_blank: Blank,
-    tile_blank: Blank,
-)
-    requires draws { (draw_blank.name ≡ D.name) × (draw_blank.parts ≡ D.parts)
-        × (0 < draw_blank.parts) }
-    requires tiles { (tile_blank.name ≡ T.name) × (tile_blank.parts ≡ T.parts)
-        × (0 < tile_blank.parts) }
-{
-    let mut draws = Steps::<D>::new(draw_blank);
-    let mut tiles = Steps::<T>::new(tile_blank);
+    draws: &mut Steps<D>,
+    tiles: &mut Steps<T>,
+) {
     let mut rollback = blank_rollback(rt, alloc, 30);
     let script = script_of(rt, alloc, 60, Some(8));
     let mut held = Held { count: 0, most: 0 };
     for _ in 0..175 {
         let script = script.as_str();
-        held = put_script(rt, &mut rollback, script, held, &mut draws, &mut tiles);
+        held = put_script(rt, &mut rollback, script, held, draws, tiles);
     }
     assert!(rt; held.count > 100_000);
     assert!(rt; held.most < 500);
@@ -349,8 +306,8 @@ fn check_trailing<D: Ledger, T: Ledger>(
     assert!(rt; numbers_of(rt, &board) == replayed(rt, alloc, depth, &acts));
 }
 
-/// Checks scripts, savepoints, two hundred groups of a command, and boards that trail, with
-/// counters over these blanks.
+/// Checks scripts, savepoints, two hundred groups of a command, boards that trail, and what is held
+/// of a hundred thousand acts, with counters over these blanks.
 fn check_all<D: Ledger, T: Ledger>(
     rt: &impl Abort,
     alloc: Global,
@@ -375,15 +332,11 @@ fn check_all<D: Ledger, T: Ledger>(
         check_script(rt, alloc, row, &mut draws, &mut tiles);
         check_trailing(rt, alloc, depth, &mut draws, &mut tiles);
     }
+    check_memory(rt, alloc, &mut draws, &mut tiles);
 }
 
 #[test]
 fn scripts_and_groups(rt: HostRuntime) {
     few_are_due::<u8>();
     check_all::<Brand, Brand>(&rt, rt.alloc(), Blank::new(1), Blank::new(1));
-}
-
-#[test]
-fn a_hundred_thousand_acts(rt: HostRuntime) {
-    check_memory::<Brand, Brand>(&rt, rt.alloc(), Blank::new(1), Blank::new(1));
 }

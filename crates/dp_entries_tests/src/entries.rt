@@ -51,6 +51,30 @@ fn source(rt: &impl Abort, alloc: Global, bytes: &[u8], piece: usize, fails: u64
     MemSource::new(bytes, piece, fails)
 }
 
+/// The test ends if this doesn't hold of a row.
+fn check(rt: &impl Abort, holds: bool, place: usize) {
+    assert!(rt; holds, "row {place}");
+}
+
+/// Pulls once: whether there was an entry, which is of user 1, or how the input ended.
+fn pull(
+    rt: &impl Abort,
+    alloc: Global,
+    reader: &mut EntryReader<Anywhere>,
+    input: &mut MemSource,
+) -> Result<bool, RunEnd> {
+    match reader.next(alloc, input) {
+        Ok(Some(entry)) => {
+            let user = entry.user;
+            drop(entry);
+            assert!(rt; user == 1);
+            Ok(true)
+        }
+        Ok(None) => Ok(false),
+        Err(end) => Err(end.run_end()),
+    }
+}
+
 /// Pulls entries until there is none: how many there were, and how the input ended. A further pull
 /// gives none.
 fn pull_all(
@@ -59,91 +83,128 @@ fn pull_all(
     reader: &mut EntryReader<Anywhere>,
     input: &mut MemSource,
 ) -> (u32, RunEnd) {
-    let mut count = 0;
-    for _ in 0..4 {
-        let end = match reader.next(alloc, input) {
-            Ok(Some(entry)) => {
-                assert!(rt; count < 3);
-                assert!(rt; entry.user == 1);
-                count += 1;
-                continue;
-            }
-            Ok(None) => RunEnd::Done,
-            Err(end) => end.run_end(),
+    for count in 0..4 {
+        let end = match pull(rt, alloc, reader, input) {
+            Ok(true) => continue,
+            Ok(false) => RunEnd::Done,
+            Err(end) => end,
         };
-        assert!(rt; matches!(reader.next(alloc, input), Ok(None)));
+        assert!(rt; pull(rt, alloc, reader, input) == Ok(false));
         return (count, end);
     }
     panic!(rt; "more entries than frames")
 }
 
+/// What comes of a part of the stream: how many entries, and how it ended.
+fn pulled_of_part(
+    rt: &impl Abort,
+    alloc: Global,
+    len: usize,
+    (piece, fails, limit): (usize, u64, u64),
+) -> (u32, RunEnd) {
+    assert!(rt; len <= 16);
+    let mut input = source(rt, alloc, &STREAM[..len], piece, fails);
+    let mut reader = EntryReader::<Anywhere>::new(alloc, 0, limit);
+    pull_all(rt, alloc, &mut reader, &mut input)
+}
+
 #[test]
 fn entries_of_parts(rt: HostRuntime) {
-    let alloc = rt.alloc();
-    for (len, piece, fails, limit, count, end) in &ROWS {
-        assert!(rt; *len <= 16);
-        let mut input = source(&rt, alloc, &STREAM[..*len], *piece, *fails);
-        let mut reader = EntryReader::<Anywhere>::new(alloc, 0, *limit);
-        let found = pull_all(&rt, alloc, &mut reader, &mut input);
-        assert!(rt; found == (*count, *end), "{len} {piece} {fails} {limit}");
+    for (place, (len, piece, fails, limit, count, end)) in ROWS.iter().enumerate() {
+        let found = pulled_of_part(&rt, rt.alloc(), *len, (*piece, *fails, *limit));
+        check(&rt, found == (*count, *end), place);
     }
+}
+
+/// What comes of the stream if so many bytes of it are handed to the reader, after 30 others.
+fn pulled_after(rt: &impl Abort, alloc: Global, taken: usize) -> (u32, RunEnd) {
+    assert!(rt; taken <= 16);
+    let mut input = source(rt, alloc, &STREAM[taken..], 3, 0);
+    let mut reader = EntryReader::<Anywhere>::new(alloc, 30, 46);
+    reader.push(&STREAM[..taken]).expect(rt, "memory");
+    pull_all(rt, alloc, &mut reader, &mut input)
 }
 
 #[test]
 fn frames_begin_after_other_bytes(rt: HostRuntime) {
-    let alloc = rt.alloc();
     for taken in 0..17 {
-        let mut input = source(&rt, alloc, &STREAM[taken..], 3, 0);
-        let mut reader = EntryReader::<Anywhere>::new(alloc, 30, 46);
-        reader.push(&STREAM[..taken]).expect(&rt, "memory");
-        let found = pull_all(&rt, alloc, &mut reader, &mut input);
-        assert!(rt; found == (3, RunEnd::Done), "{taken}");
+        let found = pulled_after(&rt, rt.alloc(), taken);
+        check(&rt, found == (3, RunEnd::Done), taken);
+    }
+}
+
+/// Has a reader hold a whole frame, and takes its entry: the user, or why the frame at a byte may
+/// not stand.
+fn taken(
+    rt: &impl Abort,
+    alloc: Global,
+    reader: &mut EntryReader<Anywhere>,
+    input: &mut MemSource,
+) -> Result<u8, Option<(DecodeError, u64)>> {
+    assert!(rt; reader.fill(input).expect(rt, "a frame"));
+    match reader.take(alloc) {
+        Ok(entry) => {
+            let user = entry.user;
+            drop(entry);
+            Ok(user)
+        }
+        Err(ReadEnd::BadMessage(cause, at)) => Err(Some((cause, at))),
+        Err(_) => Err(None),
     }
 }
 
 /// If a whole frame is held nothing is read, and one that may not stand stays.
 #[test]
 fn a_held_frame_needs_no_reading(rt: HostRuntime) {
-    let alloc = rt.alloc();
     let bytes = [0x00, 0x00, 0x80, 0x01, 0x00, 0x00, 0x14, 0x01];
-    let mut input = source(&rt, alloc, &bytes, 8, 0);
-    let mut failing = source(&rt, alloc, &[], 1, 1);
-    let mut reader = EntryReader::<Anywhere>::new(alloc, 0, 8);
-    assert!(rt; reader.fill(&mut input).expect(&rt, "a frame"));
-    assert!(rt; reader.take(alloc).expect(&rt, "an entry").user == 1);
-    for _ in 0..2 {
-        assert!(rt; reader.fill(&mut failing).expect(&rt, "a frame"));
-        assert!(rt;
-            matches!(
-                reader.take(alloc),
-                Err(ReadEnd::BadMessage(DecodeError::Unknown(0x14), 4))
-            )
-        );
+    let mut input = source(&rt, rt.alloc(), &bytes, 8, 0);
+    let mut failing = source(&rt, rt.alloc(), &[], 1, 1);
+    let mut reader = EntryReader::<Anywhere>::new(rt.alloc(), 0, 8);
+    assert!(rt; taken(&rt, rt.alloc(), &mut reader, &mut input) == Ok(1));
+    let refused = Err(Some((DecodeError::Unknown(0x14), 4)));
+    assert!(rt; taken(&rt, rt.alloc(), &mut reader, &mut failing) == refused);
+    assert!(rt; taken(&rt, rt.alloc(), &mut reader, &mut failing) == refused);
+}
+
+/// Takes an entry with so many frames before it: whether there was one, or why the frame at a byte
+/// may not stand.
+fn split_off(
+    alloc: Global,
+    splitter: &mut Splitter,
+    before: u64,
+) -> Result<bool, Option<(DecodeError, u64)>> {
+    match take_entry::<Anywhere>(alloc, splitter, before) {
+        Ok(Some(entry)) => {
+            drop(entry);
+            Ok(true)
+        }
+        Ok(None) => Ok(false),
+        Err(
+            Stop {
+                at,
+                why: Refusal::Cause(cause),
+            },
+        ) => Err(Some((cause, at))),
+        Err(_) => Err(None),
     }
+}
+
+/// A splitter that holds the first two frames of the stream, a bad one and one byte.
+fn splitter_of(rt: &impl Abort, alloc: Global) -> Splitter {
+    let mut splitter = Splitter::new(alloc);
+    splitter.feed(&STREAM[..10]).expect(rt, "memory");
+    let bad = [0x00, 0x00, 0x14, 0x01, 0x00];
+    splitter.feed(&bad).expect(rt, "memory");
+    splitter
 }
 
 #[test]
 fn a_splitter_gives_entries(rt: HostRuntime) {
-    let alloc = rt.alloc();
-    let mut splitter = Splitter::new(alloc);
-    splitter.feed(&STREAM[..10]).expect(&rt, "memory");
-    let bad = [0x00, 0x00, 0x14, 0x01, 0x00];
-    splitter.feed(&bad).expect(&rt, "memory");
-    for before in 0..2 {
-        let taken = take_entry::<Anywhere>(alloc, &mut splitter, before);
-        assert!(rt; matches!(taken, Ok(Some(_))));
-    }
-    let stop = take_entry::<Anywhere>(alloc, &mut splitter, 2);
-    assert!(rt;
-        matches!(
-            stop,
-            Err(Stop {
-                at: 10,
-                why: Refusal::Cause(DecodeError::Unknown(0x14)),
-            })
-        )
-    );
-    let none = take_entry::<Anywhere>(alloc, &mut splitter, 3);
-    assert!(rt; matches!(none, Ok(None)));
+    let mut splitter = splitter_of(&rt, rt.alloc());
+    assert!(rt; split_off(rt.alloc(), &mut splitter, 0) == Ok(true));
+    assert!(rt; split_off(rt.alloc(), &mut splitter, 1) == Ok(true));
+    let refused = Err(Some((DecodeError::Unknown(0x14), 10)));
+    assert!(rt; split_off(rt.alloc(), &mut splitter, 2) == refused);
+    assert!(rt; split_off(rt.alloc(), &mut splitter, 3) == Ok(false));
     assert!(rt; splitter.rest_len() == 1);
 }

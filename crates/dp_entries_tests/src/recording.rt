@@ -3,7 +3,8 @@
 use dp_io::MemSource;
 use dp_lines::RunEnd;
 use dp_recording::{
-    Header, HeaderError, Profile, RecordingReader, put_header, read_header, the_header_is_one,
+    Header, HeaderError, Profile, RecError, RecordingReader, put_header, read_header,
+    the_header_is_one,
 };
 use std::alloc::Global;
 use std::process::Abort;
@@ -40,57 +41,100 @@ fn recording(rt: &impl Abort, alloc: Global, len: usize) -> Vec<u8> {
     bytes
 }
 
+/// The test ends if this doesn't hold of a row.
+fn check(rt: &impl Abort, holds: bool, place: usize) {
+    assert!(rt; holds, "row {place}");
+}
+
+/// Pulls once: whether there was an entry, which is of user 1, or why there is none.
+fn pull(
+    rt: &impl Abort,
+    alloc: Global,
+    reader: &mut RecordingReader,
+    input: &mut MemSource,
+) -> Result<bool, RecError> {
+    match reader.next(alloc, input) {
+        Ok(Some(entry)) => {
+            let user = entry.user;
+            drop(entry);
+            assert!(rt; user == 1);
+            Ok(true)
+        }
+        Ok(None) => Ok(false),
+        Err(error) => Err(error),
+    }
+}
+
+/// How a recording ended that gives no further entry.
+fn end_of(pulled: Result<bool, RecError>) -> RunEnd {
+    match pulled {
+        Ok(_) => RunEnd::Done,
+        Err(error) => error.run_end(),
+    }
+}
+
 /// Pulls entries until there is none: how many there were, and how the recording ended. A further
 /// pull answers the same, and reads nothing.
-fn pull_all(rt: &impl Abort, alloc: Global, mut input: MemSource) -> (u32, RunEnd) {
-    let mut reader = RecordingReader::new();
+fn pull_all(
+    rt: &impl Abort,
+    alloc: Global,
+    reader: &mut RecordingReader,
+    input: &mut MemSource,
+) -> (u32, RunEnd) {
     for count in 0..5 {
-        let end = match reader.next(alloc, &mut input) {
-            Ok(Some(entry)) => {
-                assert!(rt; entry.user == 1);
-                continue;
-            }
-            Ok(None) => {
-                assert!(rt; matches!(reader.next(alloc, &mut input), Ok(None)));
-                RunEnd::Done
-            }
-            Err(error) => {
-                assert!(rt; matches!(reader.next(alloc, &mut input), Err(again) if again == error));
-                error.run_end()
-            }
-        };
-        return (count, end);
+        let pulled = pull(rt, alloc, reader, input);
+        if pulled == Ok(true) {
+            continue;
+        }
+        assert!(rt; pull(rt, alloc, reader, input) == pulled);
+        return (count, end_of(pulled));
     }
     panic!(rt; "more entries than frames")
 }
 
+/// What comes of so many bytes of the recording, in such pieces and with such a read that fails.
+fn pulled_of(
+    rt: &impl Abort,
+    alloc: Global,
+    len: usize,
+    (piece, fails): (usize, u64),
+) -> (u32, RunEnd) {
+    assert!(rt; 1 <= piece);
+    let bytes = recording(rt, alloc, len);
+    let fails = vec![in alloc; fails].expect(rt, "memory");
+    let mut input = MemSource::new(bytes, piece, fails);
+    let mut reader = RecordingReader::new();
+    pull_all(rt, alloc, &mut reader, &mut input)
+}
+
 #[test]
 fn entries_of_recordings(rt: HostRuntime) {
-    let alloc = rt.alloc();
-    for (len, piece, fails, count, end) in &ROWS {
-        assert!(rt; 1 <= *piece);
-        let bytes = recording(&rt, alloc, *len);
-        let fails = vec![in alloc; *fails].expect(&rt, "memory");
-        let found = pull_all(&rt, alloc, MemSource::new(bytes, *piece, fails));
-        assert!(rt; found == (*count, *end), "{len} {piece}");
+    for (place, (len, piece, fails, count, end)) in ROWS.iter().enumerate() {
+        let found = pulled_of(&rt, rt.alloc(), *len, (*piece, *fails));
+        check(&rt, found == (*count, *end), place);
     }
+}
+
+/// Whether these bytes are read as a header like this.
+fn is_read_as(alloc: Global, bytes: &[u8], wanted: Result<Header, HeaderError>) -> bool {
+    read_header(alloc, bytes) == wanted
 }
 
 /// A header that is cut may go on, and one that is bad may not.
 #[test]
 fn headers(rt: HostRuntime) {
-    let alloc = rt.alloc();
-    let header = recording(&rt, alloc, 30);
+    let header = recording(&rt, rt.alloc(), 30);
     for len in 0..30 {
         assert!(rt; len <= header.len());
-        assert!(rt; read_header(alloc, &header[..len]) == Err(HeaderError::Short));
+        let is_short = is_read_as(rt.alloc(), &header[..len], Err(HeaderError::Short));
+        check(&rt, is_short, len);
     }
     let today = Header {
         profile: Profile::Second,
         len: 30,
     };
-    assert!(rt; read_header(alloc, &header) == Ok(today));
-    assert!(rt; read_header(alloc, b"DPREX") == Err(HeaderError::Bad));
-    assert!(rt; read_header(alloc, b"DPREC0") == Err(HeaderError::Bad));
+    assert!(rt; is_read_as(rt.alloc(), &header, Ok(today)));
+    assert!(rt; is_read_as(rt.alloc(), b"DPREX", Err(HeaderError::Bad)));
+    assert!(rt; is_read_as(rt.alloc(), b"DPREC0", Err(HeaderError::Bad)));
     the_header_is_one();
 }

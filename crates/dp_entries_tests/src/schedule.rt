@@ -1,6 +1,8 @@
 //! The lines of reports.
 
 use dp_schedule::{ReportLine, one_action, one_join_action};
+use std::alloc::Global;
+use std::process::Abort;
 
 /// Lines of the report, and their texts.
 static TOLD: [(ReportLine, &str); 17] = [
@@ -37,11 +39,16 @@ static TOLD: [(ReportLine, &str); 17] = [
     (ReportLine::Gone, "gone\n"),
 ];
 
+/// The test ends if this isn't the text of a line of the report.
+fn check(rt: &impl Abort, alloc: Global, line: &ReportLine, wanted: &str) {
+    let text = line.text(alloc).expect(rt, "memory");
+    assert!(rt; text.as_slice() == wanted.as_bytes(), "{wanted}");
+}
+
 #[test]
 fn report_lines_have_their_texts(rt: HostRuntime) {
     for (line, wanted) in &TOLD {
-        let text = line.text(rt.alloc()).expect(&rt, "memory");
-        assert!(rt; text.as_slice() == wanted.as_bytes());
+        check(&rt, rt.alloc(), line, wanted);
     }
     one_action();
     one_join_action();

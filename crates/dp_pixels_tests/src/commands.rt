@@ -104,7 +104,12 @@ fn drawn(
     assert!(rt; width <= 4 && height <= 4);
     assert!(rt; pixels.len() == width as usize * height as usize);
     draw_pixels(alloc, command, width, height, &mut pixels).expect(rt, "memory");
-    assert!(rt; pixels.as_slice() == want);
+    assert!(rt; are(&pixels, want));
+}
+
+/// Whether pixels are these.
+fn are(pixels: &[Pixel], want: &[Pixel]) -> bool {
+    pixels == want
 }
 
 /// The pixel of a letter: R for red, and B for blue.
@@ -124,13 +129,21 @@ fn pixels_of([a, b, c, d]: [u8; 4]) -> [Pixel; 4] {
 /// Sizes of a dab, and the letters of the pixels that it leaves.
 static DISCS: [(u8, [u8; 4]); 4] = [(1, *b"R..."), (2, *b"R..."), (3, *b"RRRR"), (4, *b"RRR.")];
 
-/// A round dab covers these of four pixels.
+/// A round dab of this size covers these of four pixels.
+fn check_covers(rt: &impl Abort, command: &Draw, size: u8)
+    requires { is_stamp command.now ≡ true }
+{
+    assert!(rt; covers(command, 0, 0));
+    assert!(rt; covers(command, 1, 0) == (size > 2));
+    assert!(rt; covers(command, 1, 1) == (size == 3));
+}
+
+/// A round dab leaves these letters of four pixels.
 fn check_disc(rt: &impl Abort, alloc: Global, size: u8, letters: [u8; 4]) {
     let command = red_dabs(rt, alloc, true, (0, 0), &[dab(0, 0, size, 255)]);
     drawn(rt, alloc, &command, 2, 2, &[CLEAR; 4], &pixels_of(letters));
-    assert!(rt; covers(&command, 0, 0));
-    assert!(rt; covers(&command, 1, 0) == (size > 2));
-    assert!(rt; covers(&command, 1, 1) == (size == 3));
+    check_covers(rt, &command, size);
+    drop(command);
 }
 
 #[test]
@@ -196,15 +209,27 @@ fn drawn_on_blank(rt: &impl Abort, alloc: Global, command: &Draw) -> Vec<Pixel> 
     pixels
 }
 
+/// The pixels that a dab of the greatest size leaves.
+fn greatest(rt: &impl Abort, alloc: Global, round: bool, at: (i32, i32)) -> Vec<Pixel> {
+    let command = red_dabs(rt, alloc, round, at, &[dab(0, 0, 255, 255)]);
+    let pixels = drawn_on_blank(rt, alloc, &command);
+    drop(command);
+    pixels
+}
+
+/// The test ends if this doesn't hold of a row of a table.
+fn check(rt: &impl Abort, holds: bool, table: &str, place: usize) {
+    assert!(rt; holds, "{table}: {place}");
+}
+
 #[test]
 fn dabs_of_the_greatest_size_are_clipped(rt: HostRuntime) {
-    for (round, at, want) in &GREATEST {
-        let command = red_dabs(&rt, rt.alloc(), *round, *at, &[dab(0, 0, 255, 255)]);
-        let pixels = drawn_on_blank(&rt, rt.alloc(), &command);
-        assert!(rt; painted(&pixels, 320) == *want);
-        if *round && at.0 == 160 {
-            assert!(rt; painted_tiles(&pixels) == NO_CORNERS);
-        }
+    for (k, (round, at, want)) in GREATEST.iter().enumerate() {
+        let pixels = greatest(&rt, rt.alloc(), *round, *at);
+        check(&rt, painted(&pixels, 320) == *want, "greatest", k);
+        let has_corners = painted_tiles(&pixels) != NO_CORNERS;
+        drop(pixels);
+        check(&rt, !(*round && at.0 == 160 && has_corners), "corners", k);
     }
 }
 
@@ -221,6 +246,7 @@ fn dabs_stand_by_the_sums_of_their_differences(rt: HostRuntime) {
     let command = red_dabs(&rt, rt.alloc(), false, (0, 0), &list);
     let want = [CLEAR, red, CLEAR, CLEAR, red, CLEAR, CLEAR, half];
     drawn(&rt, rt.alloc(), &command, 4, 2, &[CLEAR; 8], &want);
+    drop(command);
 }
 
 /// A move's column, its width and where to, and the letters of the three pixels after it.
@@ -242,6 +268,7 @@ fn moves_blend_on_what_they_leave_clear(rt: HostRuntime) {
         let want = pixels_of(*letters);
         let command = move_of(*sx, *w, *to);
         drawn(&rt, rt.alloc(), &command, 3, 1, &before, &want[..3]);
+        drop(command);
     }
 }
 
@@ -274,12 +301,19 @@ fn tiles_are_put_row_by_row(rt: HostRuntime) {
         a: 7,
     };
     let put = pixel(&rt, (5, 0, 0, 7));
-    for (col, row, repeat, want) in &PUTS {
+    for (k, (col, row, repeat, want)) in PUTS.iter().enumerate() {
         let command = put_tile(*col, *row, *repeat, TileContent::Solid(content));
-        let mut pixels = vec![in rt.alloc(); CLEAR; 8320].expect(&rt, "memory");
-        draw_pixels(rt.alloc(), &command, 65, 128, &mut pixels).expect(&rt, "memory");
-        assert!(rt; paints_tiles(&pixels, put, want));
+        let pixels = drawn_on_strip(&rt, rt.alloc(), &command);
+        drop(command);
+        check(&rt, paints_tiles(&pixels, put, want), "puts", k);
     }
+}
+
+/// The pixels of a canvas of 65 by 128 after a command.
+fn drawn_on_strip(rt: &impl Abort, alloc: Global, command: &Draw) -> Vec<Pixel> {
+    let mut pixels = vec![in alloc; CLEAR; 8320].expect(rt, "memory");
+    draw_pixels(alloc, command, 65, 128, &mut pixels).expect(rt, "memory");
+    pixels
 }
 
 /// A tile with a pixel of 1, 2, 3, 4 at 65, one that is no pixel at 66, and clear ones elsewhere.
@@ -306,20 +340,28 @@ fn two_pixels(rt: &impl Abort, alloc: Global) -> TilePixels {
     TilePixels::from_vec(tile)
 }
 
+/// The pixels of a red canvas of 128 by 64 on which a tile of pixels is put twice.
+fn put_twice(rt: &impl Abort, alloc: Global) -> Vec<Pixel> {
+    let content = TileContent::Pixels(two_pixels(rt, alloc));
+    let command = put_tile(0, 0, 1, content);
+    let mut pixels = vec![in alloc; of_argb(RED); 8192].expect(rt, "memory");
+    let drawn = draw_pixels(alloc, &command, 128, 64, &mut pixels);
+    drop(command);
+    drawn.expect(rt, "memory");
+    pixels
+}
+
 #[test]
 fn a_tile_of_pixels_is_put_again(rt: HostRuntime) {
-    let content = TileContent::Pixels(two_pixels(&rt, rt.alloc()));
-    let command = put_tile(0, 0, 1, content);
-    let mut pixels = vec![in rt.alloc(); of_argb(RED); 8192].expect(&rt, "memory");
-    draw_pixels(rt.alloc(), &command, 128, 64, &mut pixels).expect(&rt, "memory");
     let put = pixel(&rt, (1, 2, 3, 4));
+    let pixels = put_twice(&rt, rt.alloc());
     for (k, pixel) in pixels.iter().enumerate() {
         let want = match k {
             129 | 193 => put,
             130 | 194 => of_argb(RED),
             _ => CLEAR,
         };
-        assert!(rt; *pixel == want);
+        check(&rt, *pixel == want, "a tile", k);
     }
 }
 
@@ -330,6 +372,7 @@ type Fill = (u8, (u32, u32, u32, u32), u32);
 fn check_fill(rt: &impl Abort, alloc: Global, (mode, at, color): Fill, want: &[Pixel; 4]) {
     let command = fill(mode, at, color);
     drawn(rt, alloc, &command, 2, 2, &[of_argb(RED); 4], want);
+    drop(command);
 }
 
 #[test]
@@ -358,6 +401,7 @@ fn images_blend_where_they_cover(rt: HostRuntime) {
     };
     let (before, want) = (pixels_of(*b"RRRR"), pixels_of(*b"RBRR"));
     drawn(&rt, rt.alloc(), &image, 2, 2, &before, &want);
+    drop(image);
 }
 
 #[test]
@@ -374,11 +418,19 @@ fn a_window_is_drawn_within_its_stride(rt: HostRuntime) {
     };
     let mut pixels = [CLEAR; 10];
     draw_region(&command, &region, 4, &mut pixels);
+    check_window(&rt, &command, red);
+    drop(command);
     for (k, pixel) in pixels.iter().enumerate() {
-        assert!(rt; (*pixel == red) == (k == 4 || k == 5));
+        check(&rt, (*pixel == red) == (k == 4 || k == 5), "a window", k);
     }
-    assert!(rt; pixel_after(&command, 2, 2, CLEAR) == red);
-    assert!(rt; pixel_after(&command, 3, 2, CLEAR) == CLEAR);
-    assert!(rt; covers(&command, 0, 10));
-    assert!(rt; !covers(&command, -1, 2));
+}
+
+/// What a fill in red covers, and leaves of single pixels.
+fn check_window(rt: &impl Abort, command: &Draw, red: Pixel)
+    requires { is_stamp command.now ≡ true }
+{
+    assert!(rt; pixel_after(command, 2, 2, CLEAR) == red);
+    assert!(rt; pixel_after(command, 3, 2, CLEAR) == CLEAR);
+    assert!(rt; covers(command, 0, 10));
+    assert!(rt; !covers(command, -1, 2));
 }

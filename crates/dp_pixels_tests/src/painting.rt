@@ -89,6 +89,8 @@ fn check_stroke<T: Ledger>(rt: &impl Abort, alloc: Global, tiles: &mut Steps<T>)
     let mut grid = blank_grid(alloc, 256, 64).expect(rt, "memory");
     paint_in_place(&mut grid, 256, 64, &stroke, tiles).expect(rt, "memory");
     assert!(rt; made_tiles(rt, &grid) == [true, false, true, false]);
+    drop(stroke);
+    drop(grid);
 }
 
 /// The pixels of a layer at (64, 0), (64, 1), (65, 1) and (69, 0), as its right tile is read.
@@ -135,21 +137,30 @@ fn read_each(layer: &DeferredGrid) -> [Pixel; 4]
 }
 
 /// A layer of 70 by 2 on which fills wait: a white one in both tiles, and over its right column a
-/// black one, which goes past the canvas. Its right tile is read at first, after another fill in
-/// white, and after the pixel at (64, 1) moved to (69, 0). Before the move its pixels are also read
-/// one by one.
-fn check_waiting<T: Ledger>(rt: &impl Abort, alloc: Global, tiles: &mut Steps<T>) {
-    let (white, black, clear) = (Pixel::WHITE, of_argb(0xff00_0000), Pixel::CLEAR);
-    let mut pixels = vec![in alloc; clear; 4096].expect(rt, "memory");
+/// black one, which goes past the canvas.
+fn waiting_layer<T: Ledger>(rt: &impl Abort, alloc: Global, tiles: &mut Steps<T>) -> DeferredGrid
+    ensures width { result.width ≡ 70 }
+    ensures height { result.height ≡ 2 }
+{
     let mut layer = DeferredGrid::blank(alloc, 70, 2).expect(rt, "memory");
     draw(rt, &mut layer, fill(63, 0, 2, 2, 0xffff_ffff), tiles);
     draw(rt, &mut layer, fill(64, 1, 2, 2, 0xff00_0000), tiles);
+    layer
+}
+
+/// The right tile of the layer is read at first, after another fill in white, and after the pixel
+/// at (64, 1) moved to (69, 0). Before the move its pixels are also read one by one.
+fn check_waiting<T: Ledger>(rt: &impl Abort, alloc: Global, tiles: &mut Steps<T>) {
+    let (white, black, clear) = (Pixel::WHITE, of_argb(0xff00_0000), Pixel::CLEAR);
+    let mut pixels = vec![in alloc; clear; 4096].expect(rt, "memory");
+    let mut layer = waiting_layer(rt, alloc, tiles);
     check(rt, &layer, &mut pixels, [white, black, black, clear]);
     draw(rt, &mut layer, fill(65, 1, 2, 2, 0xffff_ffff), tiles);
     check(rt, &layer, &mut pixels, [white, black, white, clear]);
     assert!(rt; read_each(&layer) == [white, black, white, clear]);
     draw(rt, &mut layer, move_of((64, 1), (69, 0)), tiles);
     check(rt, &layer, &mut pixels, [white, clear, white, black]);
+    drop(layer);
 }
 
 /// Draws on layers with a counter over this blank.

@@ -107,6 +107,8 @@ fn check_shared<T: Ledger>(rt: &impl Abort, alloc: Global, tiles: &mut Steps<T>)
     paint_each(rt, &mut other, tiles);
     check_pixels(rt, &grid, [clear, white, clear, white]);
     check_pixels(rt, &other, [white, white, white, clear]);
+    drop(grid);
+    drop(other);
 }
 
 /// Looks at grids with a counter over this blank.

@@ -1,12 +1,12 @@
 //! Sessions that go on from the rows of a store.
 
 use crate::tests::Deed::*;
-use crate::tests::{Deed, event};
+use crate::tests::{Deed, check, close, failing, pulled, put_entries, serve};
 use dp_any_session::SessionCore;
-use dp_epochs::{Answer, Query};
+use dp_epochs::Answer;
 use dp_frame::Octets;
 use dp_keeper::{MemKeeper, Row, RowBytes, Rows};
-use dp_messages::{Entry, Msg, put_entry, same};
+use dp_messages::{Entry, Msg, same};
 use dp_session::{ResumeError, ResumeFault, Session};
 use std::alloc::Global;
 use std::process::Abort;
@@ -25,20 +25,11 @@ static EVENTS: [Deed; 10] = [
     Point(2),
 ];
 
-/// An empty store, which fails at the put of this number, with the row kept or lost.
-fn failing(rt: &impl Abort, alloc: Global, call: usize, kept: bool) -> MemKeeper {
-    let fails = vec![in alloc; (call as u64, kept)].expect(rt, "memory");
-    MemKeeper::new(Rows::new(alloc), fails, Vec::new(alloc))
-}
-
-/// A session to which the first events have come, over this store.
-fn served(rt: &impl Abort, alloc: Global, keeper: MemKeeper, count: usize) -> Session<MemKeeper> {
-    let mut session = Session::new(alloc, keeper).expect(rt, "memory");
+/// The first events come to a session.
+fn serve_first(rt: &impl Abort, alloc: Global, session: &mut Session<MemKeeper>, count: usize) {
     for deed in EVENTS.iter().take(count) {
-        let event = event(rt, alloc, *deed);
-        let _answer = session.step(&event).expect(rt, "memory");
+        let _answer = serve(rt, alloc, session, *deed);
     }
-    session
 }
 
 /// The session that is resumed over this store.
@@ -51,18 +42,10 @@ fn resumed(rt: &impl Abort, alloc: Global, keeper: MemKeeper) -> Session<MemKeep
 
 /// What the connection of a number gets from the beginning on, as frames.
 fn feed(rt: &impl Abort, alloc: Global, session: &Session<MemKeeper>, conn: u32) -> Vec<u8> {
-    let query = Query::Pull {
-        conn,
-        epoch: 0,
-        at: 0,
-        max: 1000,
-    };
     let mut frames = Vec::new(alloc);
-    if let Answer::Entries { list, .. } = session.ask(&query).expect(rt, "memory") {
-        for entry in list.as_slice() {
-            put_entry(entry, &mut frames).expect(rt, "memory");
-        }
-    }
+    let answer = pulled(rt, session, (conn, 0, 0, 1000));
+    put_entries(rt, &answer, &mut frames);
+    drop(answer);
     frames
 }
 
@@ -74,40 +57,59 @@ fn same_sessions(
     session: &mut Session<MemKeeper>,
     other: &mut Session<MemKeeper>,
 ) {
-    let event = event(rt, alloc, Open(b"c"));
-    let answer = session.step(&event).expect(rt, "memory");
-    assert!(rt; answer == other.step(&event).expect(rt, "memory"));
+    let answer = serve(rt, alloc, session, Open(b"c"));
+    assert!(rt; answer == serve(rt, alloc, other, Open(b"c")));
     for conn in 1..4u32 {
-        assert!(rt; session.conns(conn) == other.conns(conn));
+        let is_same = session.conns(conn) == other.conns(conn);
+        check(rt, is_same, "connections", conn as usize);
         let frames = feed(rt, alloc, session, conn);
         let others = feed(rt, alloc, other, conn);
-        assert!(rt; frames.as_slice() == others.as_slice());
+        let is_same = frames.as_slice() == others.as_slice();
+        check(rt, is_same, "feeds", conn as usize);
     }
+}
+
+/// The store that a session leaves whose put of this number failed, after the events before.
+fn left(rt: &impl Abort, alloc: Global, call: usize, kept: bool) -> MemKeeper {
+    let mut session = failing(rt, alloc, call, kept);
+    serve_first(rt, alloc, &mut session, EVENTS.len());
+    let (keeper, journal, shut) = session.into_parts();
+    let count = journal.as_slice().len();
+    drop(journal);
+    drop(shut);
+    check(rt, count == call.wrapping_sub(1), "events kept", call);
+    keeper
+}
+
+/// Whether a session leaves so many events and rows, and no connection that was shut.
+fn leaves(session: Session<MemKeeper>, count: usize) -> bool {
+    let (keeper, journal, shut) = session.into_parts();
+    let is_so = journal.as_slice().len() == count
+        && keeper.held().as_slice().len() == count
+        && shut.as_slice().is_empty();
+    drop(keeper);
+    drop(journal);
+    is_so
 }
 
 /// A store whose put of this number fails. Its rows lead to the events before, with the one whose
 /// put failed if its row was kept.
 fn reopens(rt: &impl Abort, alloc: Global, call: usize, kept: bool) {
-    let keeper = failing(rt, alloc, call, kept);
-    let (keeper, journal, _shut) = served(rt, alloc, keeper, EVENTS.len()).into_parts();
-    let before = journal.as_slice().len();
-    assert!(rt; before == call.wrapping_sub(1));
+    let keeper = left(rt, alloc, call, kept);
     let count = keeper.held().as_slice().len();
     let mut session = resumed(rt, alloc, keeper);
-    let mut other = served(rt, alloc, failing(rt, alloc, 100, false), count);
+    let mut other = failing(rt, alloc, 100, false);
+    serve_first(rt, alloc, &mut other, count);
     same_sessions(rt, alloc, &mut session, &mut other);
-    let (keeper, journal, shut) = session.into_parts();
-    assert!(rt; journal.as_slice().len() == count + 1);
-    assert!(rt; keeper.held().as_slice().len() == count + 1);
-    assert!(rt; shut.as_slice().len() == 0);
+    close(other);
+    check(rt, leaves(session, count + 1), "reopened", call);
 }
 
 #[test]
 fn a_store_that_failed_is_reopened(rt: HostRuntime) {
     for call in 1..11usize {
-        for kept in [false, true] {
-            reopens(&rt, rt.alloc(), call, kept);
-        }
+        reopens(&rt, rt.alloc(), call, false);
+        reopens(&rt, rt.alloc(), call, true);
     }
 }
 
@@ -195,43 +197,76 @@ fn holding(rt: &impl Abort, alloc: Global, rows: &[(u64, &'static [u8])], fails:
     MemKeeper::new(held, Vec::new(alloc), fails)
 }
 
-/// Checks that the store has these rows.
-fn holds(rt: &impl Abort, keeper: &MemKeeper, rows: &[(u64, &'static [u8])]) {
+/// Whether the store has these rows.
+fn has_rows(keeper: &MemKeeper, rows: &[(u64, &'static [u8])]) -> bool {
     let held = keeper.held().as_slice();
-    assert!(rt; held.len() == rows.len());
     for (row, (n, bytes)) in held.iter().zip(rows) {
-        assert!(rt; row.n == *n);
-        assert!(rt; row.bytes.as_slice() == *bytes);
+        if row.n != *n || row.bytes.as_slice() != *bytes {
+            return false;
+        }
     }
+    held.len() == rows.len()
 }
 
-/// Checks what comes of resuming a session over a store of the rows.
-fn comes(rt: &impl Abort, alloc: Global, kept: &Kept) {
-    match Session::resume(alloc, holding(rt, alloc, kept.rows, 0)) {
-        Ok(session) => {
-            let (keeper, journal, _shut) = session.into_parts();
-            assert!(rt; kept.bad == None);
-            assert!(rt; journal.as_slice().len() == kept.rows.len());
-            holds(rt, &keeper, kept.rows);
-        }
+/// The store that a session leaves, and whether each of these rows was an event of it.
+fn left_whole(session: Session<MemKeeper>, kept: &Kept) -> (MemKeeper, bool) {
+    let (keeper, journal, shut) = session.into_parts();
+    let count = journal.as_slice().len();
+    drop(journal);
+    drop(shut);
+    (keeper, kept.bad == None && count == kept.rows.len())
+}
+
+/// Whether a fault names the row that may not stand.
+fn names_bad(why: &ResumeFault, kept: &Kept) -> bool {
+    let ResumeFault::BadRow { n, row } = why else {
+        return false;
+    };
+    let told = kept.rows.get(*n as usize);
+    Some(*n) == kept.bad
+        && told.map(|(n, _)| *n) == Some(row.n)
+        && told.map(|(_, bytes)| bytes.len()) == Some(row.bytes.len())
+}
+
+/// Checks what comes of resuming a session over a store of the rows, which stand at this place.
+fn comes(rt: &impl Abort, alloc: Global, kept: &Kept, place: usize) {
+    let (keeper, is_so) = match Session::resume(alloc, holding(rt, alloc, kept.rows, 0)) {
+        Ok(session) => left_whole(session, kept),
         Err(ResumeError { keeper, why }) => {
-            holds(rt, &keeper, kept.rows);
-            let ResumeFault::BadRow { n, row } = why else {
-                panic!(rt; "another fault");
-            };
-            assert!(rt; Some(n) == kept.bad);
-            let told = kept.rows.get(n as usize);
-            assert!(rt; told.map(|(n, _)| *n) == Some(row.n));
-            assert!(rt; told.map(|(_, bytes)| bytes.len()) == Some(row.bytes.len()));
+            let is_so = names_bad(&why, kept);
+            drop(why);
+            (keeper, is_so)
         }
-    }
+    };
+    check(rt, is_so, "what comes", place);
+    check(rt, has_rows(&keeper, kept.rows), "rows", place);
 }
 
 #[test]
 fn rows_are_read(rt: HostRuntime) {
-    for kept in &KEPT {
-        comes(&rt, rt.alloc(), kept);
+    for (place, kept) in KEPT.iter().enumerate() {
+        comes(&rt, rt.alloc(), kept, place);
     }
+}
+
+/// The entry is of user 1 and of kind 71, and has two bytes.
+fn is_of_kind_71(rt: &impl Abort, alloc: Global, entry: &Entry) {
+    assert!(rt; (entry.user, entry.msg.kind()) == (1, 71));
+    let body = Octets::from_vec(Vec::from_slice(alloc, &[0xaa, 0xbb]).expect(rt, "memory"));
+    let want = Msg::Opaque { kind: 71, body };
+    assert!(rt; same(&entry.msg, &want));
+    drop(want);
+}
+
+/// The fourth entry of the first connection is of kind 71.
+fn gives_kind_71(rt: &impl Abort, alloc: Global, session: &Session<MemKeeper>) {
+    let answer = pulled(rt, session, (1, 0, 3, 1));
+    let Answer::Entries { list, .. } = &answer else {
+        panic!(rt; "gone");
+    };
+    assert!(rt; list.as_slice().len() == 1);
+    is_of_kind_71(rt, alloc, &list.as_slice()[0]);
+    drop(answer);
 }
 
 /// A row of the first profile whose kind is 70 says a message of kind 71.
@@ -239,21 +274,20 @@ fn rows_are_read(rt: HostRuntime) {
 fn the_first_profile_is_read(rt: HostRuntime) {
     let keeper = holding(&rt, rt.alloc(), KEPT[2].rows, 0);
     let session = resumed(&rt, rt.alloc(), keeper);
-    let query = Query::Pull {
-        conn: 1,
-        epoch: 0,
-        at: 3,
-        max: 1,
-    };
-    let Answer::Entries { list, .. } = session.ask(&query).expect(&rt, "memory") else {
-        panic!(rt; "gone");
-    };
-    let [Entry { user, msg }] = list.as_slice() else {
-        panic!(rt; "not one entry");
-    };
-    assert!(rt; (*user, msg.kind()) == (1, 71));
-    let body = Octets::from_vec(Vec::from_slice(rt.alloc(), &[0xaa, 0xbb]).expect(&rt, "memory"));
-    assert!(rt; same(msg, &Msg::Opaque { kind: 71, body }));
+    gives_kind_71(&rt, rt.alloc(), &session);
+    close(session);
+}
+
+/// The store that a session leaves which wasn't resumed, since a reading failed.
+fn unread(rt: &impl Abort, alloc: Global, keeper: MemKeeper) -> MemKeeper {
+    match Session::resume(alloc, keeper) {
+        Ok(_) => panic!(rt; "resumed"),
+        Err(ResumeError { keeper, why }) => {
+            assert!(rt; matches!(why, ResumeFault::StoreFault));
+            drop(why);
+            keeper
+        }
+    }
 }
 
 /// A store that fails to read says so, and can be read again.
@@ -261,12 +295,10 @@ fn the_first_profile_is_read(rt: HostRuntime) {
 fn a_reading_that_failed(rt: HostRuntime) {
     for call in 1..3u64 {
         let keeper = holding(&rt, rt.alloc(), KEPT[1].rows, call);
-        let Err(ResumeError { keeper, why }) = Session::resume(rt.alloc(), keeper) else {
-            panic!(rt; "resumed");
-        };
-        assert!(rt; matches!(why, ResumeFault::StoreFault));
-        holds(&rt, &keeper, KEPT[1].rows);
+        let keeper = unread(&rt, rt.alloc(), keeper);
+        assert!(rt; has_rows(&keeper, KEPT[1].rows));
         let session = resumed(&rt, rt.alloc(), keeper);
         assert!(rt; session.conns(0) == None);
+        close(session);
     }
 }

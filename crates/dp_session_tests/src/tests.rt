@@ -3,7 +3,7 @@
 ghost use Rattle.std.specs.Prelude.{None};
 
 use dp_any_session::SessionCore;
-use dp_epochs::{Answer, Event, Query, Reply, ShutAt};
+use dp_epochs::{Answer, Event, Query, Reply, Shut, ShutAt};
 use dp_frame::Octets;
 use dp_history::PageFrames;
 use dp_keeper::{KeepError, Keeper, MemKeeper, Row, Rows, SureKeeper};
@@ -78,80 +78,122 @@ fn session(rt: &impl Abort, alloc: Global) -> Session<SureKeeper> {
     Session::new(alloc, SureKeeper::new(Rows::new(alloc))).expect(rt, "memory")
 }
 
-/// Serves an event, and checks the answer.
-fn serve<K: Keeper>(
+/// The test ends if this doesn't hold at a place of a table.
+pub(crate) fn check(rt: &impl Abort, holds: bool, table: &str, place: usize) {
+    assert!(rt; holds, "{table}: {place}");
+}
+
+/// Lets a session go, by its parts: so its own drop isn't proved here.
+pub(crate) fn close<K: Keeper + Drop>(session: Session<K>) {
+    let (keeper, journal, shut) = session.into_parts();
+    drop(keeper);
+    drop(journal);
+    drop(shut);
+}
+
+/// Serves an event.
+pub(crate) fn serve<K: Keeper>(
     rt: &impl Abort,
     alloc: Global,
     session: &mut Session<K>,
     deed: Deed,
-    answer: Reply,
-) {
+) -> Reply {
     let event = event(rt, alloc, deed);
-    let given = session.step(&event).expect(rt, "memory");
-    assert!(rt; given == answer);
+    let reply = session.step(&event);
+    drop(event);
+    reply.expect(rt, "memory")
 }
 
-/// An Open that has this answer.
-fn opened(conn: u32, user: u8, at: u32) -> Reply {
+/// Serves an event, which has this answer. It stands at a place of a table.
+fn check_serve<K: Keeper>(
+    rt: &impl Abort,
+    alloc: Global,
+    session: &mut Session<K>,
+    (deed, answer): (Deed, Reply),
+    (table, place): (&str, usize),
+) {
+    let given = serve(rt, alloc, session, deed);
+    check(rt, given == answer, table, place);
+}
+
+/// The answer to the Open of a user, if one has joined for each id before.
+fn opened(user: u8) -> Reply {
+    let conn = u32::from(user);
     Reply::Opened {
         conn,
         user,
         epoch: 0,
-        at,
+        at: if user == 1 { 1 } else { conn + 1 },
     }
 }
 
 /// A Pull: the connection, the epoch, from where on, and how many entries at most.
 type Pull = (u32, u32, u32, u32);
 
-/// Checks how many entries a Pull gives, and from where on; `None` for Gone.
-fn check_pull<K: Keeper>(
+/// The answer to a Pull.
+pub(crate) fn pulled<K: Keeper>(
     rt: &impl Abort,
     session: &Session<K>,
     (conn, epoch, at, max): Pull,
-    wanted: Option<(u32, usize)>,
-) {
+) -> Answer {
     let query = Query::Pull {
         conn,
         epoch,
         at,
         max,
     };
-    let given = match session.ask(&query).expect(rt, "memory") {
-        Answer::Entries { at, list, .. } => Some((at, list.as_slice().len())),
-        Answer::Gone => None,
-    };
-    assert!(rt; given == wanted);
+    session.ask(&query).expect(rt, "memory")
 }
 
-/// Checks that a page of frames is what a Pull of as many entries is answered.
-fn check_page<K: Keeper>(
+/// The epoch of an answer's entries, from where on they are, and how many; `None` for Gone.
+fn extent_of(answer: &Answer) -> Option<(u32, u32, usize)> {
+    match answer {
+        Answer::Entries { epoch, at, list } => Some((*epoch, *at, list.as_slice().len())),
+        Answer::Gone => None,
+    }
+}
+
+/// Adds the frames of an answer's entries.
+pub(crate) fn put_entries(rt: &impl Abort, answer: &Answer, frames: &mut Vec<u8>) {
+    if let Answer::Entries { list, .. } = answer {
+        for entry in list.as_slice() {
+            put_entry(entry, frames).expect(rt, "memory");
+        }
+    }
+}
+
+/// Whether a Pull gives so many entries, and from this place on; `None` for Gone.
+fn gives<K: Keeper>(
+    rt: &impl Abort,
+    session: &Session<K>,
+    pull: Pull,
+    wanted: Option<(u32, usize)>,
+) -> bool {
+    let answer = pulled(rt, session, pull);
+    let extent = extent_of(&answer);
+    drop(answer);
+    extent.map(|(_, at, count)| (at, count)) == wanted
+}
+
+/// Whether a page of frames is what a Pull of as many entries is answered.
+fn has_page<K: Keeper>(
     rt: &impl Abort,
     alloc: Global,
     session: &Session<K>,
     (conn, epoch, at, _): Pull,
-) {
+) -> bool {
     let mut frames = PageFrames::new(alloc);
     let page = session
         .put_page(conn, epoch, at, &mut frames)
         .expect(rt, "memory");
     let max = page.map_or(1, |page| u32::try_from(page.count).unwrap_or(0));
-    let query = Query::Pull {
-        conn,
-        epoch,
-        at,
-        max,
-    };
+    let answer = pulled(rt, session, (conn, epoch, at, max));
     let mut written = Vec::new(alloc);
-    let mut given = None;
-    if let Answer::Entries { epoch, at, list } = session.ask(&query).expect(rt, "memory") {
-        for entry in list.as_slice() {
-            put_entry(entry, &mut written).expect(rt, "memory");
-        }
-        given = Some((epoch, at, list.as_slice().len()));
-    }
-    assert!(rt; page.map(|page| (page.epoch, page.at, page.count)) == given);
-    assert!(rt; frames.as_slice() == written.as_slice());
+    put_entries(rt, &answer, &mut written);
+    let extent = extent_of(&answer);
+    drop(answer);
+    page.map(|page| (page.epoch, page.at, page.count)) == extent
+        && frames.as_slice() == written.as_slice()
 }
 
 /// The answers to the first two users who join.
@@ -172,6 +214,7 @@ const SECOND: Reply = Reply::Opened {
 /// Events with their answers; then how many connections take part in an epoch, and Pulls with what
 /// they give.
 struct Case {
+    name: &'static str,
     events: &'static [(Deed, Reply)],
     conns: &'static [(u32, Option<u32>)],
     pulls: &'static [(Pull, Option<(u32, usize)>)],
@@ -180,6 +223,7 @@ struct Case {
 static CASES: [Case; 4] = [
     // Each answer.
     Case {
+        name: "each answer",
         events: &[
             (Open(b""), Reply::NameRefused),
             (Open(b"\xff"), Reply::NameRefused),
@@ -206,6 +250,7 @@ static CASES: [Case; 4] = [
     // Of two users the first is operator, and resets the session. The opening has the mark, two
     // Joins, four messages about rights, and the command.
     Case {
+        name: "a reset",
         events: &[
             (Open(b"a"), FIRST),
             (Open(b"a"), SECOND),
@@ -236,6 +281,7 @@ static CASES: [Case; 4] = [
     // Joins, four messages about rights, the command and the points. A place may be the length of
     // the history, and not past it. A reset that begins anew without a place keeps nothing.
     Case {
+        name: "a reset that keeps",
         events: &[
             (Open(b"a"), FIRST),
             (Open(b"a"), SECOND),
@@ -265,6 +311,7 @@ static CASES: [Case; 4] = [
     },
     // A reset is dropped with its owner, and the next operator may send one.
     Case {
+        name: "a reset that is dropped",
         events: &[
             (Open(b"a"), FIRST),
             (Open(b"a"), SECOND),
@@ -286,42 +333,65 @@ static CASES: [Case; 4] = [
 ];
 
 /// Serves the events of a case, and asks what it asks.
-fn check(rt: &impl Abort, alloc: Global, case: &Case) {
+fn check_case(rt: &impl Abort, alloc: Global, case: &Case) {
     let mut session = session(rt, alloc);
-    for (deed, answer) in case.events {
-        serve(rt, alloc, &mut session, *deed, *answer);
+    for (k, row) in case.events.iter().enumerate() {
+        check_serve(rt, alloc, &mut session, *row, (case.name, k));
     }
+    check_asked(rt, alloc, &session, case);
+    close(session);
+}
+
+/// Asks what a case asks.
+fn check_asked(rt: &impl Abort, alloc: Global, session: &Session<SureKeeper>, case: &Case) {
     for (epoch, count) in case.conns {
-        assert!(rt; session.conns(*epoch) == *count);
+        check(rt, session.conns(*epoch) == *count, case.name, 100);
     }
-    for (pull, wanted) in case.pulls {
-        check_pull(rt, &session, *pull, *wanted);
-        check_page(rt, alloc, &session, *pull);
+    for (k, (pull, wanted)) in case.pulls.iter().enumerate() {
+        let gives = gives(rt, session, *pull, *wanted);
+        check(
+            rt,
+            gives && has_page(rt, alloc, session, *pull),
+            case.name,
+            k,
+        );
     }
 }
 
 #[test]
 fn answers(rt: HostRuntime) {
     for case in &CASES {
-        check(&rt, rt.alloc(), case);
+        check_case(&rt, rt.alloc(), case);
     }
 }
+
+/// The events of a session of which each id is given.
+static FULL: [(Deed, Reply); 3] = [
+    (Open(b"a"), Reply::Full),
+    (Close(7), Reply::Placed { epoch: 0, at: 256 }),
+    (
+        Open(b"a"),
+        Reply::Opened {
+            conn: 255,
+            user: 7,
+            epoch: 0,
+            at: 257,
+        },
+    ),
+];
 
 #[test]
 fn ids_are_given_again(rt: HostRuntime) {
     let mut session = session(&rt, rt.alloc());
     for user in 1..255u8 {
-        let conn = u32::from(user);
-        let answer = opened(conn, user, if user == 1 { 1 } else { conn + 1 });
-        serve(&rt, rt.alloc(), &mut session, Open(b"a"), answer);
+        let row = (Open(b"a"), opened(user));
+        let place = ("joins", usize::from(user));
+        check_serve(&rt, rt.alloc(), &mut session, row, place);
     }
-    for (deed, answer) in [
-        (Open(b"a"), Reply::Full),
-        (Close(7), Reply::Placed { epoch: 0, at: 256 }),
-        (Open(b"a"), opened(255, 7, 257)),
-    ] {
-        serve(&rt, rt.alloc(), &mut session, deed, answer);
+    for (k, row) in FULL.iter().enumerate() {
+        check_serve(&rt, rt.alloc(), &mut session, *row, ("ids", k));
     }
+    close(session);
 }
 
 /// Two users join, say something and leave.
@@ -342,36 +412,59 @@ static EVENTS: [Deed; 10] = [
 /// are faults.
 fn run_to_fault(rt: &impl Abort, alloc: Global, session: &mut Session<MemKeeper>, call: usize) {
     for (k, deed) in EVENTS.iter().enumerate() {
-        let event = event(rt, alloc, *deed);
-        let answer = session.step(&event).expect(rt, "memory");
+        let answer = serve(rt, alloc, session, *deed);
         let is_fault = answer == Reply::StoreFault { count: 1 };
-        assert!(rt; is_fault == (k + 1 >= call));
+        check(rt, is_fault == (k + 1 >= call), "faults", k);
     }
+}
+
+/// A session over an empty store that fails at the put of this number, with the row kept or lost.
+pub(crate) fn failing(
+    rt: &impl Abort,
+    alloc: Global,
+    call: usize,
+    kept: bool,
+) -> Session<MemKeeper> {
+    let fails = vec![in alloc; (call as u64, kept)].expect(rt, "memory");
+    let keeper = MemKeeper::new(Rows::new(alloc), fails, Vec::new(alloc));
+    Session::new(alloc, keeper).expect(rt, "memory")
+}
+
+/// How many rows a session over a store leaves, how many events, and the closings that were
+/// refused.
+fn left(session: Session<MemKeeper>) -> (usize, usize, Shut) {
+    let (keeper, journal, shut) = session.into_parts();
+    let counts = (keeper.held().as_slice().len(), journal.as_slice().len());
+    drop(keeper);
+    drop(journal);
+    (counts.0, counts.1, shut)
 }
 
 /// A store that fails at the put of this number, with the row kept or lost: the closings after are
 /// `closings`.
 fn fails_at(rt: &impl Abort, alloc: Global, call: usize, kept: bool, closings: &[ShutAt]) {
-    let fails = vec![in alloc; (call as u64, kept)].expect(rt, "memory");
-    let keeper = MemKeeper::new(Rows::new(alloc), fails, Vec::new(alloc));
-    let mut session = Session::new(alloc, keeper).expect(rt, "memory");
+    let mut session = failing(rt, alloc, call, kept);
     run_to_fault(rt, alloc, &mut session, call);
-    let (keeper, journal, shut) = session.into_parts();
+    let (rows, events, shut) = left(session);
     let before = call.wrapping_sub(1);
-    let held = keeper.held().as_slice().len();
-    assert!(rt; held == (if kept { call } else { before }));
-    assert!(rt; journal.as_slice().len() == before);
-    assert!(rt; shut.as_slice() == closings);
+    check(
+        rt,
+        rows == (if kept { call } else { before }),
+        "rows kept",
+        call,
+    );
+    check(rt, events == before, "events kept", call);
+    check(rt, shut.as_slice() == closings, "closings", call);
 }
 
 #[test]
 fn a_store_that_fails(rt: HostRuntime) {
     let first = [ShutAt { conn: 1, n: 2 }, ShutAt { conn: 2, n: 2 }];
     let last = [ShutAt { conn: 2, n: 9 }];
-    for kept in [false, true] {
-        fails_at(&rt, rt.alloc(), 3, kept, &first);
-        fails_at(&rt, rt.alloc(), 10, kept, &last);
-    }
+    fails_at(&rt, rt.alloc(), 3, false, &first);
+    fails_at(&rt, rt.alloc(), 3, true, &first);
+    fails_at(&rt, rt.alloc(), 10, false, &last);
+    fails_at(&rt, rt.alloc(), 10, true, &last);
 }
 
 /// A store that keeps nothing.
@@ -407,37 +500,74 @@ fn say_bytes(
 ) -> Reply {
     let body = Octets::from_vec(vec![in alloc; 0; length].expect(rt, "memory"));
     let msg = Msg::Opaque { kind: 200, body };
-    session
-        .step(&Event::Say { conn: 1, msg })
-        .expect(rt, "memory")
+    let event = Event::Say { conn: 1, msg };
+    let reply = session.step(&event);
+    drop(event);
+    reply.expect(rt, "memory")
 }
+
+/// Connection 1 says so many bytes, and this is answered.
+fn check_say(
+    rt: &impl Abort,
+    alloc: Global,
+    session: &mut Session<Forgetful>,
+    (length, answer): (usize, Reply),
+    place: usize,
+) {
+    let given = say_bytes(rt, alloc, session, length);
+    check(rt, given == answer, "messages", place);
+}
+
+/// How many bytes are said when no room is left for the greatest payload, and what is answered.
+static LAST: [(usize, Reply); 4] = [
+    (65535, Reply::Ended),
+    (49154, Reply::Ended),
+    (
+        49153,
+        Reply::Placed {
+            epoch: 0,
+            at: 16385,
+        },
+    ),
+    (0, Reply::Ended),
+];
 
 /// The row of the Open has 3 bytes, each Say has 6 beside its payload, and a Close has 5: of 2^30
 /// bytes 49159 are left after 16382 of the greatest payloads.
 #[test]
 fn ends_where_no_room_is_left(rt: HostRuntime) {
     let mut session = Session::new(rt.alloc(), Forgetful {}).expect(&rt, "memory");
-    serve(&rt, rt.alloc(), &mut session, Open(b"a"), FIRST);
+    check_serve(
+        &rt,
+        rt.alloc(),
+        &mut session,
+        (Open(b"a"), FIRST),
+        ("joins", 0),
+    );
     for k in 0..16382 {
         let placed = Reply::Placed {
             epoch: 0,
             at: k + 3,
         };
-        assert!(rt; say_bytes(&rt, rt.alloc(), &mut session, 65535) == placed);
+        check_say(&rt, rt.alloc(), &mut session, (65535, placed), k as usize);
     }
-    let last = Reply::Placed {
-        epoch: 0,
-        at: 16385,
-    };
-    for (length, answer) in [
-        (65535, Reply::Ended),
-        (49154, Reply::Ended),
-        (49153, last),
-        (0, Reply::Ended),
-    ] {
-        assert!(rt; say_bytes(&rt, rt.alloc(), &mut session, length) == answer);
+    for (k, row) in LAST.iter().enumerate() {
+        check_say(
+            &rt,
+            rt.alloc(),
+            &mut session,
+            *row,
+            k.saturating_add(20_000),
+        );
     }
     assert!(rt; session.conns(0) == Some(1));
-    serve(&rt, rt.alloc(), &mut session, Close(1), Reply::Ended);
+    check_serve(
+        &rt,
+        rt.alloc(),
+        &mut session,
+        (Close(1), Reply::Ended),
+        ("leaves", 0),
+    );
     assert!(rt; session.conns(0) == None);
+    close(session);
 }
