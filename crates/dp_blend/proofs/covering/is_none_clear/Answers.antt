@@ -11,7 +11,8 @@ loop-k-preserved c =
     (2 * (c.loop-k.k + 1)) c.index-sources-k.result c.index-sources-k-in-loop-k.result
     c.loop-k.auto.least.0 (omega arith) (omega arith) c.index-sources-k.is
     c.index-sources-k-in-loop-k.is
-    (c.smaller_of-least.ensures ∙ ap (zip2 min c.loop-k.least) c.lanes_of.ensures.value) c.loop-k.invariant
+    (c.smaller_of-least.ensures ∙ ap (zip2 min c.loop-k.least) c.lanes_of.ensures.value)
+    c.loop-k.invariant
 
 pub returns-then-first-gt0 : goal.returns-then-first-gt0
 returns-then-first-gt0 c positive =
