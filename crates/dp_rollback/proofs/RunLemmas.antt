@@ -5,11 +5,12 @@ use Rattle.std.proofs.Common.{length-append, None, Some}
 use Rattle.std.specs.Prelude.{if◌then◌else◌, nat_lt, sum_by, slice_range, Option, unwrap_or}
 use Rattle.std.specs.Prelude.{IfSome}
 use Rattle.std.specs.Option.{ForSome, option_to_list}
-use Rattle.std.specs.List.{fold, Contains}
+use Rattle.std.specs.List.{fold, All, Contains}
 use Rattle.std.proofs.lemmas.Bool.{ltb-true}
 use Rattle.std.proofs.lemmas.List.{take-append-drop, drop-drop, drop-map, take_more, map-append}
 use Rattle.std.proofs.lemmas.List.{take-map, length-map, take_all, length-drop, drop_more}
 use Rattle.std.proofs.lemmas.List.Concat.{flat_map-append}
+use Rattle.std.proofs.lemmas.List.Elements.{All-weaker}
 use Rattle.std.proofs.lemmas.List.Sums.{sum_by-append}
 use Rattle.std.proofs.lemmas.Grind.{fold-append}
 use Rattle.dp_board.specs.Commands.{command_of}
@@ -229,6 +230,27 @@ pub slice-from : {A : Type 0} → (xs ys : List A) (a b : ℕ) → xs ≡ ys →
 slice-from xs ys a b same at =
     take_all (length xs - a) (drop a xs) (omega (arith, length-drop a xs))
     ∙ ap (drop a) same ∙ ap (λ n. drop n ys) at
+
+-- the Points that have savepoints come no later than the acts from one in reach on
+pub reach-within : {A : Type 0} → (slice kept : List A) (points saved : List ℕ)
+    (position oldest base count group : ℕ) → slice ≡ drop (group - base) kept
+    → count ≡ length kept → position ≡ base + count → base ≡ oldest → oldest ≤ group
+    → saved ≡ points → All (λ point. point < position) points
+    → All (λ point. point - group ≤ length slice) saved
+reach-within slice kept points saved position oldest base count group slice_is count_is end begins
+    reach same before =
+    subst (All (λ point. point - group ≤ length slice)) (sym same)
+    (All-weaker (λ point. point < position) (λ point. point - group ≤ length slice)
+    (λ point below. omega (
+      arith,
+      below,
+      ap length slice_is,
+      length-drop (group - base) kept,
+      count_is,
+      end,
+      begins,
+      reach,
+    )) points before)
 
 -- at its start it has drawn nothing
 pub IsRun-begins : {B Op : Type 0} → (draw : B → Op → B) (kept : List (KeptAct Op)) (from : B)

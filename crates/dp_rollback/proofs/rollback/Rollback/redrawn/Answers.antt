@@ -1,10 +1,71 @@
-use Rattle.std.proofs.Common.{◌≡◌, ◌-◌, ◌∙◌, ap, drop, refl, subst, sym, true, false}
+use Rattle.std.proofs.Common.{◌≡◌, ℕ, ◌-◌, ◌<◌, ◌≤◌, ◌∙◌, ap, drop, refl, subst, sym, true, false}
+use Rattle.std.proofs.Common.{arith, length}
 use Rattle.std.specs.Prelude.{is_some}
 use Rattle.std.specs.List.{Contains}
+use Rattle.std.specs.List.Sorted.{IsNonDecreasing}
+use Rattle.std.specs.Vec.{vec_len}
 use Rattle.dp_board.specs.Strokes.{is_among}
+use Rattle.dp_board.specs.Table.{oldest_in}
 use Rattle.dp_rollback.specs.Rollback.{points_of}
 use Rattle.dp_rollback.proofs.RunLemmas.{slice-from, IsRun-begins, IsRedrawn-run, CountsFew-from}
+use Rattle.dp_rollback.proofs.RunLemmas.{reach-within, CountsFew-none}
 use Rattle.dp_rollback.proofs.rollback.Rollback.redrawn.Goals as goal
+
+pub overflow_sub-kept : goal.overflow_sub-kept
+overflow_sub-kept g c =
+    let inside = c.self.inside in
+    let group = c.args.mark.group in
+    let keeps = c.self.invariant.2 in
+    let reach = subst (λ o. oldest_in o.table ≤ group) (sym c.self.view_is) c.requires.reach in
+    let before = subst (λ o. group < o.table.position) (sym c.self.view_is) c.requires.before in
+    omega (
+      arith,
+      keeps.up_to_end,
+      keeps.begins,
+      reach,
+      before,
+      inside.kept.ok.0,
+      ap length c.deref-3.ensures.value,
+    )
+
+pub slice_bounds-kept-start : goal.slice_bounds-kept-start
+slice_bounds-kept-start g c =
+    let inside = c.self.inside in
+    let group = c.args.mark.group in
+    let keeps = c.self.invariant.2 in
+    let reach = subst (λ o. oldest_in o.table ≤ group) (sym c.self.view_is) c.requires.reach in
+    let before = subst (λ o. group < o.table.position) (sym c.self.view_is) c.requires.before in
+    omega (
+      arith,
+      keeps.up_to_end,
+      keeps.begins,
+      reach,
+      before,
+      inside.kept.ok.0,
+      ap length c.deref-3.ensures.value,
+    )
+
+pub returns-in_err-share-clause-counts : goal.returns-in_err-share-clause-counts
+returns-in_err-share-clause-counts g c =
+    CountsFew-none g.B.Board.weight _ _ _ _ _ c.share.ensures.no_draw c.share.ensures.no_tile
+
+pub finish-requires-clause-rising : goal.finish-requires-clause-rising
+finish-requires-clause-rising g c =
+    let saved = c.self.invariant.2.saved in
+    subst IsNonDecreasing (sym (ap points_of c.deref-4.ensures.value ∙ saved.same)) saved.rising
+
+pub finish-requires-clause-within : goal.finish-requires-clause-within
+finish-requires-clause-within g c =
+    let inside = c.self.inside in
+    let group = c.args.mark.group in
+    let keeps = c.self.invariant.2 in
+    let from : ℕ = group - inside.base in
+    reach-within _ inside.kept.items _ _ inside.table.position (oldest_in inside.table) inside.base
+    (vec_len inside.kept) group
+    (slice-from c.deref-3.result.now inside.kept.items from from c.deref-3.ensures.value refl)
+    inside.kept.ok.0 keeps.up_to_end keeps.begins
+    (subst (λ o. oldest_in o.table ≤ group) (sym c.self.view_is) c.requires.reach)
+    (ap points_of c.deref-4.ensures.value ∙ keeps.saved.same) keeps.saved.before
 
 pub returns-clause-made : goal.returns-clause-made
 returns-clause-made g c =

@@ -5,6 +5,26 @@ use Rattle.dp_rollback.specs.Kept.{marked, drawn_among}
 use Rattle.dp_rollback.proofs.RunLemmas.{run-rest, slice-from, CountsFew-rest}
 use Rattle.dp_rollback.proofs.run.Run.finish.Goals as goal
 
+pub overflow_sub-more : goal.overflow_sub-more
+overflow_sub-more g c =
+    omega (
+      arith,
+      c.in_ok-saves.ensures.begun,
+      c.in_ok-saves.ensures.inside,
+      ap (λ r. r.start) c.self.view_is,
+      ap (λ r. r.at) c.self.view_is,
+    )
+
+pub slice_bounds-more-start : goal.slice_bounds-more-start
+slice_bounds-more-start g c =
+    omega (
+      arith,
+      c.in_ok-saves.ensures.begun,
+      c.in_ok-saves.ensures.inside,
+      ap (λ r. r.start) c.self.view_is,
+      ap (λ r. r.at) c.self.view_is,
+    )
+
 pub returns-clause-redrawn : goal.returns-clause-redrawn
 returns-clause-redrawn g c = λ from is.
     let draw = g.B.Board.drawn in

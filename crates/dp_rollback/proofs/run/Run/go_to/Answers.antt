@@ -7,6 +7,54 @@ use Rattle.dp_rollback.specs.Runs.{LeavesFew}
 use Rattle.dp_rollback.proofs.RunLemmas.{IsRun-more, LeavesFew-more, CountsFew-part}
 use Rattle.dp_rollback.proofs.run.Run.go_to.Goals as goal
 
+pub overflow_sub-more : goal.overflow_sub-more
+overflow_sub-more g c =
+    omega (
+      arith,
+      c.requires.begun,
+      c.requires.inside,
+      c.requires.within,
+      c.if-position-self.false,
+      ap (λ r. r.start) c.self.view_is,
+      ap (λ r. r.at) c.self.view_is,
+    )
+
+pub overflow_sub-more-2 : goal.overflow_sub-more-2
+overflow_sub-more-2 g c =
+    omega (
+      arith,
+      c.requires.begun,
+      c.requires.inside,
+      c.requires.within,
+      c.if-position-self.false,
+      ap (λ r. r.start) c.self.view_is,
+      ap (λ r. r.at) c.self.view_is,
+    )
+
+pub slice_bounds-more-start : goal.slice_bounds-more-start
+slice_bounds-more-start g c =
+    omega (
+      arith,
+      c.requires.begun,
+      c.requires.inside,
+      c.requires.within,
+      c.if-position-self.false,
+      ap (λ r. r.start) c.self.view_is,
+      ap (λ r. r.at) c.self.view_is,
+    )
+
+pub slice_bounds-more-end : goal.slice_bounds-more-end
+slice_bounds-more-end g c =
+    omega (
+      arith,
+      c.requires.begun,
+      c.requires.inside,
+      c.requires.within,
+      c.if-position-self.false,
+      ap (λ r. r.start) c.self.view_is,
+      ap (λ r. r.at) c.self.view_is,
+    )
+
 pub returns-in_err-redraw-clause-counts : goal.returns-in_err-redraw-clause-counts
 returns-in_err-redraw-clause-counts g c =
     let run = c.self.inside in
