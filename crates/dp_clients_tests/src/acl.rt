@@ -38,25 +38,47 @@ fn entry_of(rt: &impl Abort, alloc: Global, user: u8, kind: u8, digits: &str) ->
     let payload = bytes.expect(rt, "hexadecimal");
     assert!(rt; payload.len() < 65_536);
     let frame = Frame::new(kind, user, Octets::from_vec(payload));
-    decode(alloc, &frame.view()).expect(rt, "an entry")
+    let entry = decode(alloc, &frame.view());
+    drop(frame);
+    entry.expect(rt, "an entry")
+}
+
+/// The rights after the session.
+fn rights_of_session(rt: &impl Abort, alloc: Global) -> Rights {
+    let mut rights = Rights::new(alloc);
+    for (user, kind, digits) in &SESSION {
+        let entry = entry_of(rt, alloc, *user, *kind, digits);
+        let noted = rights.note(&entry);
+        drop(entry);
+        noted.expect(rt, "memory");
+    }
+    rights
+}
+
+/// The test ends if this doesn't hold of a user and a kind.
+fn check(rt: &impl Abort, holds: bool, user: u8, kind: u8) {
+    assert!(rt; holds, "kind {kind} of user {user}");
+}
+
+/// These of the users 1 to 4 may send an entry of a kind.
+fn check_users(rt: &impl Abort, rights: &Rights, entry: &Entry, kind: u8, users: &str) {
+    for user in 1..5u8 {
+        let may = users.as_bytes().contains(&(b'0' + user));
+        check(rt, rights.permits(user, &entry.msg) == may, user, kind);
+    }
 }
 
 #[test]
 fn rights_of_control_messages(rt: HostRuntime) {
     let alloc = rt.alloc();
-    let mut rights = Rights::new(alloc);
-    for (user, kind, digits) in &SESSION {
-        let entry = entry_of(&rt, alloc, *user, *kind, digits);
-        rights.note(&entry).expect(&rt, "memory");
-    }
+    let mut rights = rights_of_session(&rt, alloc);
     for (kind, digits, users) in &CONTROLS {
         let entry = entry_of(&rt, alloc, 0, *kind, digits);
-        for user in 1..5u8 {
-            let may = users.as_bytes().contains(&(b'0' + user));
-            assert!(rt; rights.permits(user, &entry.msg) == may);
-        }
+        check_users(&rt, &rights, &entry, *kind, users);
+        drop(entry);
     }
     check_carried(&rt, alloc, &mut rights);
+    drop(rights);
 }
 
 /// Who is operator, and the kinds of the messages that carry the rights of users 1 to 3.
@@ -65,9 +87,9 @@ fn check_carried(rt: &impl Abort, alloc: Global, rights: &mut Rights) {
     rights.reserve(1).expect(rt, "memory");
     let present = Vec::from_slice(alloc, &[1, 2, 3]).expect(rt, "memory");
     let carried = rights.carry(&Ids::from_vec(present)).expect(rt, "memory");
-    let mut kinds = Vec::new(alloc);
-    for meta in &carried {
-        kinds.push(kind_of_meta(meta)).expect(rt, "memory");
+    assert!(rt; carried.len() == 4);
+    for (meta, kind) in carried.iter().zip(&[34, 36, 66, 68]) {
+        check(rt, kind_of_meta(meta) == *kind, 0, *kind);
     }
-    assert!(rt; kinds.as_slice() == [34, 36, 66, 68].as_slice());
+    drop(carried);
 }

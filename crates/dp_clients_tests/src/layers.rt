@@ -26,7 +26,9 @@ fn forest(rt: &impl Abort, alloc: Global) -> Tree<u16> {
             title: Title::new(alloc),
         };
         let content = if *group { None } else { Some(*id) };
-        assert!(rt; tree.create(&command, content).expect(rt, "memory"));
+        let made = tree.create(&command, content);
+        drop(command);
+        assert!(rt; made.expect(rt, "memory"));
     }
     tree
 }
@@ -51,18 +53,31 @@ fn contents_are_put_in(rt: HostRuntime) {
     assert!(rt; tree.content_mut(12).is_none());
 }
 
+/// The same rows with the contents 1 to 3.
+fn remade(rt: &impl Abort, alloc: Global, tree: &Tree<u16>) -> Tree<u16> {
+    let contents = [1, 2, 3].to_vec(alloc).expect(rt, "memory");
+    assert!(rt; tree.rows().iter().filter(|row| !row.group).count() == contents.len());
+    tree.remake(contents).expect(rt, "memory")
+}
+
+/// Deletes the row of an id.
+fn delete(rt: &impl Abort, tree: &mut Tree<u16>, id: u16) {
+    let delete = Draw::LayerDelete { id };
+    assert!(rt; tree.delete(&delete).expect(rt, "memory"));
+}
+
+/// What three rows hold.
+fn held(tree: &Tree<u16>) -> [Option<u16>; 3] {
+    [11, 13, 20].map(|id| tree.content(id).copied())
+}
+
 #[test]
 fn shared_rows_change_apart(rt: HostRuntime) {
-    let alloc = rt.alloc();
-    let mut tree = forest(&rt, alloc);
-    let contents = [1, 2, 3].to_vec(alloc).expect(&rt, "memory");
-    assert!(rt; tree.rows().iter().filter(|row| !row.group).count() == contents.len());
-    let other = tree.remake(contents).expect(&rt, "memory");
-    let held = [11, 13, 20].map(|id| other.content(id).copied());
-    assert!(rt; held == [Some(1), Some(2), Some(3)]);
+    let mut tree = forest(&rt, rt.alloc());
+    let other = remade(&rt, rt.alloc(), &tree);
+    assert!(rt; held(&other) == [Some(1), Some(2), Some(3)]);
     assert!(rt; other.rows() == tree.rows());
-    let delete = Draw::LayerDelete { id: 10 };
-    assert!(rt; tree.delete(&delete).expect(&rt, "memory"));
+    delete(&rt, &mut tree, 10);
     assert!(rt; (tree.rows().len(), other.rows().len()) == (2, 6));
     assert!(rt; (paint_rows(&tree), paint_rows(&other)) == (1, 3));
 }

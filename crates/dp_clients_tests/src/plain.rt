@@ -93,14 +93,49 @@ fn check_share<B: Board<Op = Draw> + BoardView, D: Ledger, T: Ledger>(
     draws: &mut Steps<D>,
     tiles: &mut Steps<T>,
 ) {
-    for command in &commands(alloc) {
-        board.draw(command, draws, tiles).expect(rt, "memory");
+    for command in commands(alloc) {
+        draw(rt, board, command, draws, tiles);
     }
     let other = board.share(draws, tiles).expect(rt, "memory");
-    let delete = Draw::LayerDelete { id: 1 };
-    board.draw(&delete, draws, tiles).expect(rt, "memory");
+    draw(rt, board, Draw::LayerDelete { id: 1 }, draws, tiles);
     check_upper_row(rt, alloc, &other, "R.");
     assert!(rt; board.rows().is_empty());
+}
+
+/// Draws a command on a board.
+fn draw<B: Board<Op = Draw>, D: Ledger, T: Ledger>(
+    rt: &impl Abort,
+    board: &mut B,
+    command: Draw,
+    draws: &mut Steps<D>,
+    tiles: &mut Steps<T>,
+) {
+    let drawn = board.draw(&command, draws, tiles);
+    drop(command);
+    drawn.expect(rt, "memory");
+}
+
+/// The entries of the commands.
+fn entries_of(rt: &impl Abort, alloc: Global) -> Vec<Entry> {
+    let mut entries = Vec::new(alloc);
+    for command in commands(alloc) {
+        let msg = Msg::Draw(command);
+        entries.push(Entry { user: 1, msg }).expect(rt, "memory");
+    }
+    entries
+}
+
+/// The replay of the commands has a red pixel.
+fn check_replay<D: Ledger, T: Ledger>(
+    rt: &impl Abort,
+    alloc: Global,
+    draws: &mut Steps<D>,
+    tiles: &mut Steps<T>,
+) {
+    let entries = entries_of(rt, alloc);
+    let replayed = plain_replay(alloc, &entries, draws, tiles);
+    drop(entries);
+    check_upper_row(rt, alloc, &replayed.expect(rt, "memory"), "R.");
 }
 
 /// Draws on boards, and replays a history, with counters over these blanks.
@@ -120,13 +155,8 @@ fn check_boards<D: Ledger, T: Ledger>(rt: &impl Abort, alloc: Global, draws: Bla
     drawn.expect(rt, "memory");
     is_one(&draws);
     check_share(rt, alloc, &mut board, &mut draws, &mut tiles);
-    let mut entries = Vec::new(alloc);
-    for command in commands(alloc) {
-        let msg = Msg::Draw(command);
-        entries.push(Entry { user: 1, msg }).expect(rt, "memory");
-    }
-    let replayed = plain_replay(alloc, &entries, &mut draws, &mut tiles);
-    check_upper_row(rt, alloc, &replayed.expect(rt, "memory"), "R.");
+    drop(board);
+    check_replay(rt, alloc, &mut draws, &mut tiles);
 }
 
 #[test]
@@ -143,7 +173,11 @@ fn acts(rt: HostRuntime) {
             redo: false,
         },
     };
-    let act = act_of(&entry).expect(&rt, "memory");
-    assert!(rt; matches!(act, Act::Undo { who: 2 }));
-    assert!(rt; !is_command(&entry.msg));
+    let is_draw = is_command(&entry.msg);
+    let act = act_of(&entry);
+    drop(entry);
+    assert!(rt; !is_draw);
+    let act = act.expect(&rt, "memory");
+    assert!(rt; matches!(&act, Act::Undo { who: 2 }));
+    drop(act);
 }

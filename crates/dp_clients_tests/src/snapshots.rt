@@ -5,7 +5,7 @@ ghost use Rattle.std.specs.Prelude.{◌≡◌, ◌<◌};
 use dp_board::Board;
 use dp_canvas::Canvas;
 use dp_msg_draw::{Draw, TileContent, TilePixel, TilePixels, Title, same_draw};
-use dp_plain::{BoardView, PlainBoard};
+use dp_plain::PlainBoard;
 use dp_snap::snapshot;
 use dp_steps::Steps;
 use std::alloc::Global;
@@ -29,26 +29,46 @@ const CLEAR_PIXEL: TilePixel = TilePixel {
     a: 0,
 };
 
-fn resize(right: i32, bottom: i32) -> Draw {
-    Draw::CanvasResize {
-        top: 0,
-        right,
-        bottom,
-        left: 0,
-    }
+/// A command in short. A tile is put in red, or clear with one red pixel at this place.
+#[derive(Clone, Copy)]
+enum Command {
+    Resize(i32, i32),
+    Background(u32),
+    /// The id, the parent, and whether it is a group.
+    Create(u16, u16, bool),
+    /// Fills a rectangle of a layer.
+    Fill(u16, (u32, u32, u32, u32)),
+    /// The id, the parent, and the row above which it comes to stand.
+    Hang(u16, u16, u16),
+    /// Hides a row that gets another mode.
+    Hide(u16),
+    RedTile(u16, u16, u16),
+    Dotted(u16, u16, usize),
 }
 
-fn create(alloc: Global, id: u16, parent: u16, group: bool) -> Draw {
-    Draw::LayerCreate {
-        id,
-        parent,
-        group,
-        title: Title::new(alloc),
+use Command::*;
+
+/// A clear tile with one red pixel.
+fn dotted(rt: &impl Abort, alloc: Global, place: usize) -> TileContent {
+    assert!(rt; place < 4096);
+    let mut pixels = vec![in alloc; CLEAR_PIXEL; 4096].expect(rt, "memory");
+    pixels[place] = RED_PIXEL;
+    TileContent::Pixels(TilePixels::from_vec(pixels))
+}
+
+/// Puts a tile on a layer.
+fn put_tile(layer: u16, col: u16, row: u16, content: TileContent) -> Draw {
+    Draw::PutTile {
+        layer,
+        col,
+        row,
+        repeat: 0,
+        content,
     }
 }
 
 /// Fills a rectangle of a layer with red.
-fn fill(layer: u16, x: u32, y: u32, w: u32, h: u32) -> Draw {
+fn fill(layer: u16, (x, y, w, h): (u32, u32, u32, u32)) -> Draw {
     Draw::FillRect {
         layer,
         mode: 1,
@@ -60,180 +80,198 @@ fn fill(layer: u16, x: u32, y: u32, w: u32, h: u32) -> Draw {
     }
 }
 
-fn hang(id: u16, parent: u16, above: u16) -> Draw {
-    Draw::LayerMove { id, parent, above }
-}
-
-/// Puts a red tile.
-fn red_tile(layer: u16, col: u16, row: u16) -> Draw {
-    Draw::PutTile {
-        layer,
-        col,
-        row,
-        repeat: 0,
-        content: TileContent::Solid(RED_PIXEL),
+/// The command.
+fn draw_of(rt: &impl Abort, alloc: Global, command: Command) -> Draw {
+    match command {
+        Resize(right, bottom) => Draw::CanvasResize {
+            top: 0,
+            right,
+            bottom,
+            left: 0,
+        },
+        Background(color) => Draw::Background { color },
+        Create(id, parent, group) => Draw::LayerCreate {
+            id,
+            parent,
+            group,
+            title: Title::new(alloc),
+        },
+        Fill(layer, rect) => fill(layer, rect),
+        Hang(id, parent, above) => Draw::LayerMove { id, parent, above },
+        Hide(id) => Draw::LayerAttr {
+            id,
+            opacity: 128,
+            mode: 10,
+            hidden: true,
+        },
+        RedTile(layer, col, row) => put_tile(layer, col, row, TileContent::Solid(RED_PIXEL)),
+        Dotted(col, row, place) => put_tile(1, col, row, dotted(rt, alloc, place)),
     }
 }
 
-/// Puts a clear tile with one red pixel.
-fn dotted_tile(rt: &impl Abort, alloc: Global, col: u16, row: u16, place: usize) -> Draw
-    requires { place < 4096 }
-{
-    let mut pixels = vec![in alloc; CLEAR_PIXEL; 4096].expect(rt, "memory");
-    pixels[place] = RED_PIXEL;
-    Draw::PutTile {
-        layer: 1,
-        col,
-        row,
-        repeat: 0,
-        content: TileContent::Pixels(TilePixels::from_vec(pixels)),
+/// The test ends if this doesn't hold of a command of a snapshot.
+fn check(rt: &impl Abort, holds: bool, case: usize, place: usize) {
+    assert!(rt; holds, "command {place} of case {case}");
+}
+
+/// Whether a command is this one.
+fn is_command(rt: &impl Abort, alloc: Global, given: &Draw, want: Command) -> bool {
+    let want = draw_of(rt, alloc, want);
+    let is_same = same_draw(given, &want);
+    drop(want);
+    is_same
+}
+
+/// The snapshot has these commands.
+fn check_commands(
+    rt: &impl Abort,
+    alloc: Global,
+    given: &[Draw],
+    (case, want): (usize, &[Command]),
+) {
+    check(rt, given.len() == want.len(), case, want.len());
+    for (k, (command, want)) in given.iter().zip(want).enumerate() {
+        check(rt, is_command(rt, alloc, command, *want), case, k);
     }
 }
 
-/// The board has a snapshot of these commands.
-fn check_commands<V: BoardView>(rt: &impl Abort, alloc: Global, board: &V, want: &[Draw]) {
-    let given = snapshot(alloc, board).expect(rt, "memory");
-    assert!(rt; given.as_slice().len() == want.len());
-    for (command, want) in given.as_slice().iter().zip(want) {
-        assert!(rt; same_draw(command, want));
-    }
+/// Draws a command on a board.
+fn draw_on<B: Board<Op = Draw>, D: Ledger, T: Ledger>(
+    rt: &impl Abort,
+    board: &mut B,
+    command: &Draw,
+    draws: &mut Steps<D>,
+    tiles: &mut Steps<T>,
+) {
+    board.draw(command, draws, tiles).expect(rt, "memory");
 }
+
+/// The canvas that commands make.
+fn canvas_of<D: Ledger, T: Ledger>(
+    rt: &impl Abort,
+    alloc: Global,
+    commands: &[Command],
+    draws: &mut Steps<D>,
+    tiles: &mut Steps<T>,
+) -> Canvas {
+    let mut canvas = Canvas::new(alloc);
+    for command in commands {
+        let command = draw_of(rt, alloc, *command);
+        draw_on(rt, &mut canvas, &command, draws, tiles);
+        drop(command);
+    }
+    canvas
+}
+
+/// The plain board that a snapshot makes.
+fn board_of<D: Ledger, T: Ledger>(
+    rt: &impl Abort,
+    alloc: Global,
+    snapshot: &[Draw],
+    draws: &mut Steps<D>,
+    tiles: &mut Steps<T>,
+) -> PlainBoard {
+    let mut board = PlainBoard::new(alloc);
+    for command in snapshot {
+        draw_on(rt, &mut board, command, draws, tiles);
+    }
+    board
+}
+
+/// Commands on an empty canvas, and the snapshot of the board that they give.
+static CASES: [(&[Command], &[Command]); 6] = [
+    // An empty canvas.
+    (&[], &[]),
+    // One colour on a canvas, with a layer without any.
+    (
+        &[
+            Resize(2, 1),
+            Create(1, 0, false),
+            Create(2, 0, false),
+            Fill(2, (0, 0, 2, 1)),
+            Background(0x80ff),
+        ],
+        &[
+            Resize(2, 1),
+            Background(0x80ff),
+            Create(1, 0, false),
+            Create(2, 0, false),
+            RedTile(2, 0, 0),
+        ],
+    ),
+    // Groups in groups, a row before its group, and a hidden row of another mode.
+    (
+        &[
+            Resize(1, 1),
+            Create(1, 0, true),
+            Create(2, 1, true),
+            Create(3, 2, false),
+            Create(4, 0, false),
+            Hang(4, 1, 0),
+            Hide(3),
+            Fill(3, (0, 0, 1, 1)),
+        ],
+        &[
+            Resize(1, 1),
+            Create(4, 0, false),
+            Create(1, 0, true),
+            Create(2, 0, true),
+            Create(3, 0, false),
+            Hang(4, 1, 0),
+            Hang(2, 1, 1),
+            Hang(3, 2, 2),
+            Hide(3),
+            RedTile(3, 0, 0),
+        ],
+    ),
+    // One pixel of a canvas of two.
+    (
+        &[Resize(2, 1), Create(1, 0, false), Fill(1, (0, 0, 1, 1))],
+        &[Resize(2, 1), Create(1, 0, false), Dotted(0, 0, 0)],
+    ),
+    // Four tiles, of which three have one column or one row: the last is filled.
+    (
+        &[Resize(65, 65), Create(1, 0, false), Fill(1, (64, 64, 1, 1))],
+        &[Resize(65, 65), Create(1, 0, false), RedTile(1, 1, 1)],
+    ),
+    // Such tiles, of which the first has a clear pixel.
+    (
+        &[
+            Resize(65, 65),
+            Create(1, 0, false),
+            Fill(1, (0, 64, 65, 1)),
+            Fill(1, (64, 2, 1, 1)),
+        ],
+        &[
+            Resize(65, 65),
+            Create(1, 0, false),
+            Dotted(1, 0, 128),
+            RedTile(1, 0, 1),
+            RedTile(1, 1, 1),
+        ],
+    ),
+];
 
 /// The commands on an empty canvas give a board of this snapshot, and so does that snapshot on an
 /// empty plain board.
 fn check_snapshot<D: Ledger, T: Ledger>(
     rt: &impl Abort,
     alloc: Global,
-    commands: &[Draw],
-    want: &[Draw],
+    commands: &[Command],
+    want: (usize, &[Command]),
     draws: &mut Steps<D>,
     tiles: &mut Steps<T>,
 ) {
-    let mut canvas = Canvas::new(alloc);
-    for command in commands {
-        canvas.draw(command, draws, tiles).expect(rt, "memory");
-    }
-    check_commands(rt, alloc, &canvas, want);
-    let mut board = PlainBoard::new(alloc);
+    let canvas = canvas_of(rt, alloc, commands, draws, tiles);
     let given = snapshot(alloc, &canvas).expect(rt, "memory");
-    for command in given.as_slice() {
-        board.draw(command, draws, tiles).expect(rt, "memory");
-    }
-    check_commands(rt, alloc, &board, want);
-}
-
-/// Boards of small canvases: an empty one, and one colour on a canvas, with a layer without any.
-fn check_small<D: Ledger, T: Ledger>(
-    rt: &impl Abort,
-    alloc: Global,
-    draws: &mut Steps<D>,
-    tiles: &mut Steps<T>,
-) {
-    check_snapshot(rt, alloc, &[], &[], draws, tiles);
-    let commands = [
-        resize(2, 1),
-        create(alloc, 1, 0, false),
-        create(alloc, 2, 0, false),
-        fill(2, 0, 0, 2, 1),
-        Draw::Background { color: 0x80ff },
-    ];
-    let want = [
-        resize(2, 1),
-        Draw::Background { color: 0x80ff },
-        create(alloc, 1, 0, false),
-        create(alloc, 2, 0, false),
-        red_tile(2, 0, 0),
-    ];
-    check_snapshot(rt, alloc, &commands, &want, draws, tiles);
-}
-
-/// Groups in groups, a row before its group, and a hidden row of another mode.
-fn check_nested<D: Ledger, T: Ledger>(
-    rt: &impl Abort,
-    alloc: Global,
-    draws: &mut Steps<D>,
-    tiles: &mut Steps<T>,
-) {
-    let hidden = Draw::LayerAttr {
-        id: 3,
-        opacity: 128,
-        mode: 10,
-        hidden: true,
-    };
-    let commands = [
-        resize(1, 1),
-        create(alloc, 1, 0, true),
-        create(alloc, 2, 1, true),
-        create(alloc, 3, 2, false),
-        create(alloc, 4, 0, false),
-        hang(4, 1, 0),
-        hidden,
-        fill(3, 0, 0, 1, 1),
-    ];
-    let want = [
-        resize(1, 1),
-        create(alloc, 4, 0, false),
-        create(alloc, 1, 0, true),
-        create(alloc, 2, 0, true),
-        create(alloc, 3, 0, false),
-        hang(4, 1, 0),
-        hang(2, 1, 1),
-        hang(3, 2, 2),
-        Draw::LayerAttr {
-            id: 3,
-            opacity: 128,
-            mode: 10,
-            hidden: true,
-        },
-        red_tile(3, 0, 0),
-    ];
-    check_snapshot(rt, alloc, &commands, &want, draws, tiles);
-}
-
-/// One pixel of a canvas of two. Then four tiles, of which three have one column or one row: the
-/// last is filled, or the first has a clear pixel.
-fn check_tiles<D: Ledger, T: Ledger>(
-    rt: &impl Abort,
-    alloc: Global,
-    draws: &mut Steps<D>,
-    tiles: &mut Steps<T>,
-) {
-    let commands = [
-        resize(2, 1),
-        create(alloc, 1, 0, false),
-        fill(1, 0, 0, 1, 1),
-    ];
-    let want = [
-        resize(2, 1),
-        create(alloc, 1, 0, false),
-        dotted_tile(rt, alloc, 0, 0, 0),
-    ];
-    check_snapshot(rt, alloc, &commands, &want, draws, tiles);
-    let commands = [
-        resize(65, 65),
-        create(alloc, 1, 0, false),
-        fill(1, 64, 64, 1, 1),
-    ];
-    let want = [
-        resize(65, 65),
-        create(alloc, 1, 0, false),
-        red_tile(1, 1, 1),
-    ];
-    check_snapshot(rt, alloc, &commands, &want, draws, tiles);
-    let commands = [
-        resize(65, 65),
-        create(alloc, 1, 0, false),
-        fill(1, 0, 64, 65, 1),
-        fill(1, 64, 2, 1, 1),
-    ];
-    let want = [
-        resize(65, 65),
-        create(alloc, 1, 0, false),
-        dotted_tile(rt, alloc, 1, 0, 128),
-        red_tile(1, 0, 1),
-        red_tile(1, 1, 1),
-    ];
-    check_snapshot(rt, alloc, &commands, &want, draws, tiles);
+    drop(canvas);
+    check_commands(rt, alloc, given.as_slice(), want);
+    let board = board_of(rt, alloc, given.as_slice(), draws, tiles);
+    drop(given);
+    let again = snapshot(alloc, &board).expect(rt, "memory");
+    drop(board);
+    check_commands(rt, alloc, again.as_slice(), want);
+    drop(again);
 }
 
 /// Looks at snapshots with counters over these blanks.
@@ -250,9 +288,9 @@ fn check_snapshots<D: Ledger, T: Ledger>(
 {
     let mut draws = Steps::<D>::new(draw_blank);
     let mut tiles = Steps::<T>::new(tile_blank);
-    check_small(rt, alloc, &mut draws, &mut tiles);
-    check_nested(rt, alloc, &mut draws, &mut tiles);
-    check_tiles(rt, alloc, &mut draws, &mut tiles);
+    for (k, (commands, want)) in CASES.iter().enumerate() {
+        check_snapshot(rt, alloc, commands, (k, *want), &mut draws, &mut tiles);
+    }
 }
 
 #[test]

@@ -8,11 +8,10 @@ use Rattle.dp_hall.specs.declared.view.Entry.{Entry}
 use Rattle.dp_hall.specs.declared.view.View.{View}
 use Rattle.dp_hall.specs.Calls.{Acts}
 use Rattle.dp_hall.specs.Laws.{Continues}
-use Rattle.dp_link_tests.specs.declared.counter.Counter.{Counter}
 use Rattle.dp_link_tests.specs.Counting.{Came, Adds, ran_out, any_ran_out}
 
 -- no outcome is a fault
-pub no-fault : (acts : List (Entry ℕ Came Counter)) → false ≡ list_any (λ act. false) acts
+pub no-fault : {M : Type 0} (acts : List (Entry ℕ Came M)) → false ≡ list_any (λ act. false) acts
 no-fault [] = refl
 no-fault (act ∷ acts) = no-fault acts
 
@@ -23,13 +22,13 @@ either false true = refl
 either false false = refl
 
 -- one byte more
-pub adds-more : (v u w : View ℕ Came Counter) (count total : ℕ) (memory more : Bool) (byte : ℕ)
-    (came : Came) (act : Acts u byte came w)
-    → ((xs ys : List (Entry ℕ Came Counter)) → Continues v xs u → Continues u ys w
+pub adds-more : {M : Type 0} (v u w : View ℕ Came M) (count total : ℕ) (memory more : Bool)
+    (byte : ℕ) (came : Came) (act : Acts u byte came w)
+    → ((xs ys : List (Entry ℕ Came M)) → Continues v xs u → Continues u ys w
     → Continues v (xs ++ ys) w)
     → Continues u (act.entry ∷ []) w → total ≡ count + 1 → more ≡ ran_out came || memory
     → Adds v count memory u → Adds v total more w
-adds-more v u w count total memory more byte came act both once next is h = record {
+adds-more {M} v u w count total memory more byte came act both once next is h = record {
   acts = h.acts ++ act.entry ∷ [];
   goes = both h.acts (act.entry ∷ []) h.goes once;
   count_is = omega (arith, next, h.count_is, length-append h.acts (act.entry ∷ []));
@@ -39,6 +38,6 @@ adds-more v u w count total memory more byte came act both once next is h = reco
       ∙ ap (λ b. b || ran_out came) h.memory_is
       ∙ ap (λ b. any_ran_out h.acts || b)
       (ap ran_out (sym act.outcome_is) ∙ sym (or-false (ran_out act.entry.outcome)))
-      ∙ sym (list_any-append (λ (e : Entry ℕ Came Counter). ran_out e.outcome) h.acts
+      ∙ sym (list_any-append (λ (e : Entry ℕ Came M). ran_out e.outcome) h.acts
       (act.entry ∷ []));
 }

@@ -1,12 +1,10 @@
--- Halls of tallies and of counters may be shared, and seats of tallies may go to other threads.
-use denote.Builtin.{bool, u8, unit, u64}
+-- Halls of tallies may be shared, and seats of tallies may go to other threads.
+use denote.Builtin.{bool, unit, u64}
 use denote.Param.Send.{IsSend, IsSync, sendable}
 use Rattle.std.proofs.Crossing.{crosses}
 use Rattle.dp_hall.proofs.Sending.{seat_send, hall_sync}
 use Rattle.dp_hall.specs.contracts.hall.Hall as Hall
 use Rattle.dp_hall.specs.contracts.seat.Seat as Seat
-use Rattle.dp_link_tests.specs.contracts.counter.Counter as Counter
-use Rattle.dp_link_tests.specs.contracts.counter.CounterMachine.TheImpl as adding
 use Rattle.dp_link_tests.specs.contracts.tally.Mark as Mark
 use Rattle.dp_link_tests.specs.contracts.tally.Tally as Tally
 use Rattle.dp_link_tests.specs.contracts.tally.TallyMachine.TheImpl as machine
@@ -19,9 +17,3 @@ tallies_sync = hall_sync Tally.the_row Mark.the_row bool unit u64 machine.ghosts
 
 pub tallies_send : IsSend (Seat.the_row Tally.the_row Mark.the_row bool unit u64 machine.ghosts)
 tallies_send = seat_send Tally.the_row Mark.the_row bool unit u64 machine.ghosts tally_send
-
-counter_send : IsSend Counter.the_row
-counter_send = search (sendable, crosses) depth 20
-
-pub counters_sync : IsSync (Hall.the_row Counter.the_row u8 u64 unit u64 adding.ghosts)
-counters_sync = hall_sync Counter.the_row u8 u64 unit u64 adding.ghosts counter_send

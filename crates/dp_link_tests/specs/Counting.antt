@@ -6,8 +6,6 @@ use Rattle.dp_hall.specs.declared.view.Entry.{Entry}
 use Rattle.dp_hall.specs.declared.view.View.{View}
 use Rattle.dp_hall.specs.Laws.{Continues}
 use Rattle.dp_crew.specs.Runs.{LinkRun, Rules}
-use Rattle.dp_link_tests.specs.declared.counter.Added.{Added}
-use Rattle.dp_link_tests.specs.declared.counter.Counter.{Counter}
 
 -- what came of a byte
 abbrev pub Came : Type 0
@@ -18,28 +16,36 @@ abbrev pub ran_out : Came → Bool
 ran_out (Ok sum) = false
 ran_out (Err error) = true
 
-abbrev pub any_ran_out : List (Entry ℕ Came Counter) → Bool
-any_ran_out acts = list_any (λ act. ran_out act.outcome) acts
+module _ {M : Type 0} where
+  abbrev pub any_ran_out : List (Entry ℕ Came M) → Bool
+  any_ran_out acts = list_any (λ act. ran_out act.outcome) acts
 
--- the report of this worker's link counts its acts
-pub record IsCounted {R T : Type 0} (last : Counter) (who : ℕ)
-    (run : LinkRun Added ℕ Came Counter R T) : Type 0 where
-  pub worker : run.report.worker ≡ who
-  pub count : run.report.count ≡ length run.acts
+  -- so many bytes were acted, and memory ran out exactly if that is so
+  pub record Adds (v : View ℕ Came M) (count : ℕ) (memory : Bool) (w : View ℕ Came M)
+      : Type 0 where
+    pub acts : List (Entry ℕ Came M)
+    pub goes : Continues v acts w
+    pub count_is : count ≡ length acts
+    pub memory_is : memory ≡ any_ran_out acts
 
-abbrev pub count_rules : {R T : Type 0} → Rules Added ℕ Came Counter R T
-count_rules = record {
-  begins = λ counter. ⊤;
-  is_run = IsCounted;
-  number = λ report. report.link;
-  ran_out = λ run. any_ran_out run.acts;
-  is_fault = λ outcome. false;
-}
+-- what a report tells of a link: its worker, its number, and how many bytes it said
+pub record Told (Report : Type 0) : Type 0 where
+  pub worker : Report → ℕ
+  pub link : Report → ℕ
+  pub count : Report → ℕ
 
--- so many bytes were acted, and memory ran out exactly if that is so
-pub record Adds (v : View ℕ Came Counter) (count : ℕ) (memory : Bool) (w : View ℕ Came Counter)
-    : Type 0 where
-  pub acts : List (Entry ℕ Came Counter)
-  pub goes : Continues v acts w
-  pub count_is : count ≡ length acts
-  pub memory_is : memory ≡ any_ran_out acts
+module _ {M Report R T : Type 0} where
+  -- the report of this worker's link counts its acts
+  pub record IsCounted (told : Told Report) (last : M) (who : ℕ)
+      (run : LinkRun Report ℕ Came M R T) : Type 0 where
+    pub worker : told.worker run.report ≡ who
+    pub count : told.count run.report ≡ length run.acts
+
+  abbrev pub count_rules : Told Report → Rules Report ℕ Came M R T
+  count_rules told = record {
+    begins = λ counter. ⊤;
+    is_run = IsCounted told;
+    number = told.link;
+    ran_out = λ run. any_ran_out run.acts;
+    is_fault = λ outcome. false;
+  }

@@ -81,7 +81,11 @@ impl<'a, W: Wait, R: Source, T: Sink> Reporting<Counter, R, T> for Adder<'a, W> 
 
     type Report = Added;
 
-    ghost rules = { count_rules };
+    ghost rules = { count_rules (record {
+      worker = λ report. report.worker;
+      link = λ report. report.link;
+      count = λ report. report.count;
+    }) };
 
     fn reports_go_on() {}
 }

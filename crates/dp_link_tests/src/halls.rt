@@ -1,7 +1,7 @@
 //! Halls of a machine that notes who acted.
 
 use crate::pair::live_four;
-use crate::tally::{GATED, Gate, Tally};
+use crate::tally::{GATED, Gate, Mark, Tally};
 use crate::work::{ActLate, ActOnce, ActRefused, ActThree, CountInside, WaitPast, live, live_both};
 use std::alloc::Global;
 use std::process::Abort;
@@ -22,28 +22,35 @@ fn empty(rt: &impl Abort, alloc: Global) -> Tally {
     }
 }
 
+/// Whether each of four threads has acted so often, in the order of its numbers.
+fn are_in_order(marks: &[Mark], times: u64) -> bool {
+    let mut next = [0u64; 4];
+    for mark in marks {
+        let thread = mark.thread as usize;
+        if thread >= 4 || mark.number != next[thread] {
+            return false;
+        }
+        next[thread] = mark.number.wrapping_add(1);
+    }
+    next == [times; 4]
+}
+
 #[test]
 fn four_threads_act(rt: HostRuntime) {
     let tally = empty(&rt, rt.alloc());
     let tally = live_four(&rt, rt.alloc(), tally, TIMES).expect(&rt, "memory");
     assert!(rt; tally.marks.len() == 40_000);
-    let mut next = [0u64; 4];
-    for mark in tally.marks.iter() {
-        let thread = mark.thread as usize;
-        assert!(rt; thread < 4);
-        assert!(rt; mark.number == next[thread]);
-        next[thread] = mark.number.wrapping_add(1);
-    }
-    assert!(rt; next == [TIMES; 4]);
+    assert!(rt; are_in_order(&tally.marks, TIMES));
+    drop(tally);
 }
 
 #[test]
 fn a_wait_ends_at_an_act(rt: HostRuntime) {
     let (mut wait, mut act) = (WaitPast { rt: &rt, n: 0 }, ActLate { rt: &rt });
     let tally = empty(&rt, rt.alloc());
-    let (_, (count, ())) = live_both(&rt, rt.alloc(), tally, &mut wait, &mut act).expect(
-        &rt, "memory",
-    );
+    let lived = live_both(&rt, rt.alloc(), tally, &mut wait, &mut act);
+    let (tally, (count, ())) = lived.expect(&rt, "memory");
+    drop(tally);
     assert!(rt; count == 1);
 }
 
@@ -57,9 +64,9 @@ fn a_count_comes_while_an_act_goes_on(rt: HostRuntime) {
         rt: &rt,
         number: GATED,
     };
-    let (_, (count, outcome)) = live_both(&rt, rt.alloc(), tally, &mut count, &mut act).expect(
-        &rt, "memory",
-    );
+    let lived = live_both(&rt, rt.alloc(), tally, &mut count, &mut act);
+    let (tally, (count, outcome)) = lived.expect(&rt, "memory");
+    drop(tally);
     assert!(rt; count == Some(0));
     assert!(rt; outcome == Ok(true));
 }
@@ -71,6 +78,7 @@ fn a_refused_act_is_an_entry(rt: HostRuntime) {
     let (tally, answers) = live(rt.alloc(), tally, &mut act).expect(&rt, "memory");
     assert!(rt; answers == (true, 1, true, Some(1)));
     assert!(rt; tally.marks.len() == 1);
+    drop(tally);
 }
 
 #[test]
@@ -80,4 +88,5 @@ fn a_turn_ends_at_a_refused_act(rt: HostRuntime) {
     let (tally, answers) = live(rt.alloc(), tally, &mut acts).expect(&rt, "memory");
     assert!(rt; answers == (2, 1, true, 2));
     assert!(rt; tally.marks.len() == 1);
+    drop(tally);
 }

@@ -3,7 +3,8 @@
 //! the Hello to the end.
 #![tactic(auto)]
 
-pub mod counter;
+#[cfg(test)]
+mod counter;
 #[cfg(test)]
 mod crews;
 #[cfg(test)]

@@ -81,23 +81,62 @@ fn numbers(rt: &impl Abort, alloc: Global, n: u64) -> Vec<u64> {
     list
 }
 
-/// Serves the link of a row over a store, and looks at all that it leaves.
-fn check_over<R: Wait + Abort, K: Keeper + Drop>(rt: &R, alloc: Global, keeper: K, row: &Row) {
+/// The test ends if this doesn't hold of a row.
+fn check(rt: &impl Abort, holds: bool, what: &str, place: usize) {
+    assert!(rt; holds, "{what} of row {place}");
+}
+
+/// What a peer sends, and what it is sent, by the numbers of a row.
+fn peer_of(rt: &impl Abort, alloc: Global, row: &Row) -> (MemSource, MemSink) {
     assert!(rt; row.piece > 0 && row.room > 0);
     let bytes = Vec::from_slice(alloc, row.bytes).expect(rt, "memory");
-    let mut rx = MemSource::new(bytes, row.piece, numbers(rt, alloc, row.read_fails));
+    let rx = MemSource::new(bytes, row.piece, numbers(rt, alloc, row.read_fails));
     let fails = numbers(rt, alloc, row.write_fails);
-    let mut tx = MemSink::new(alloc, 100, row.room, fails).expect(rt, "memory");
-    let (end, journal, shut) = run_link(rt, alloc, keeper, &mut rx, &mut tx).expect(rt, "memory");
-    assert!(rt; end == row.end);
-    assert!(rt; journal.as_slice().len() == row.events);
-    assert!(rt; shut.as_slice().len() == row.shut);
-    assert!(rt; tx.as_slice() == row.feed);
+    let tx = MemSink::new(alloc, 100, row.room, fails).expect(rt, "memory");
+    (rx, tx)
+}
+
+/// Serves a link over a store: how it ends, how many events were kept, and how many closings were
+/// refused.
+fn serve<R: Wait + Abort, K: Keeper + Drop>(
+    rt: &R,
+    alloc: Global,
+    keeper: K,
+    rx: &mut MemSource,
+    tx: &mut MemSink,
+) -> (LinkEnd, usize, usize) {
+    let (end, journal, shut) = run_link(rt, alloc, keeper, rx, tx).expect(rt, "memory");
+    let (events, closings) = (journal.as_slice().len(), shut.as_slice().len());
+    drop(journal);
+    drop(shut);
+    (end, events, closings)
+}
+
+/// Serves the link of a row over a store, and looks at all that it leaves.
+fn check_over<R: Wait + Abort, K: Keeper + Drop>(
+    rt: &R,
+    alloc: Global,
+    keeper: K,
+    row: &Row,
+    place: usize,
+) {
+    let (mut rx, mut tx) = peer_of(rt, alloc, row);
+    let (end, events, closings) = serve(rt, alloc, keeper, &mut rx, &mut tx);
+    check(rt, end == row.end, "the end", place);
+    check(
+        rt,
+        (events, closings) == (row.events, row.shut),
+        "what is kept",
+        place,
+    );
+    check(rt, tx.as_slice() == row.feed, "the feed", place);
+    drop(rx);
+    drop(tx);
 }
 
 /// Looks at the link of a row over a store that never fails.
-fn check<R: Wait + Abort>(rt: &R, alloc: Global, row: &Row) {
-    check_over(rt, alloc, SureKeeper::new(Rows::new(alloc)), row);
+fn check_row<R: Wait + Abort>(rt: &R, alloc: Global, row: &Row, place: usize) {
+    check_over(rt, alloc, SureKeeper::new(Rows::new(alloc)), row, place);
 }
 
 /// What was the painter's own goes into the journal, in pieces of every length.
@@ -109,7 +148,7 @@ fn pieces_do_not_matter(rt: HostRuntime) {
             room: piece,
             ..SERVED
         };
-        check(&rt, rt.alloc(), &row);
+        check_row(&rt, rt.alloc(), &row, piece);
     }
 }
 
@@ -132,7 +171,7 @@ fn each_write_fails_in_turn(rt: HostRuntime) {
             feed: &FEED[..taken],
             ..SERVED
         };
-        check(&rt, rt.alloc(), &row);
+        check_row(&rt, rt.alloc(), &row, taken);
     }
 }
 
@@ -192,8 +231,8 @@ static ROWS: [Row; 9] = [
 
 #[test]
 fn rows(rt: HostRuntime) {
-    for row in &ROWS {
-        check(&rt, rt.alloc(), row);
+    for (place, row) in ROWS.iter().enumerate() {
+        check_row(&rt, rt.alloc(), row, place);
     }
 }
 
@@ -212,5 +251,5 @@ fn the_store_fails_at_a_say(rt: HostRuntime) {
         feed: &FEED[..15],
         ..SERVED
     };
-    check_over(&rt, alloc, keeper, &row);
+    check_over(&rt, alloc, keeper, &row, 0);
 }

@@ -2,14 +2,31 @@
 
 ghost use Rattle.std.specs.Prelude.{◌≡◌};
 ghost use Rattle.dp_hall.specs.Calls.{IsOf};
-ghost use Rattle.dp_link_tests.specs.Working.{Returns, Acted};
+ghost use Rattle.dp_link_tests.specs.Working.{Returns};
 
 use crate::tally::{Mark, Tally};
-use crate::work::{act_often, seats_return, start};
+use crate::work::{Work, act_often, both, seats_return, start};
 use dp_hall::{Hall, Seat, seats_come_back};
 use std::alloc::{AllocError, Global};
 use std::sync::Wait;
 use std::thread::{Threads, join_mut};
+
+/// So many acts of this thread.
+#[derive(Drop)]
+struct ActOften<'a, R> {
+    rt: &'a R,
+    thread: u64,
+    times: u64,
+}
+
+impl<'a, R: Wait> Work for ActOften<'a, R> {
+    type Output = ();
+
+    fn work(&mut self, hall: &Hall<Tally>, seat: &mut Seat<Tally>) {
+        seats_return::<Mark, Result<bool, AllocError>, Tally>();
+        act_often(self.rt, hall, seat, self.thread, self.times);
+    }
+}
 
 /// A hall's whole life, in which threads 0 to 3 act `times` times each.
 pub fn live_four<R: Threads + Wait + Sync>(
@@ -82,40 +99,8 @@ fn act_two<R: Threads + Wait + Sync>(
     ensures of { IsOf hall.now seat.new }
     ensures returns { Returns seat.old.view seat.new.view }
 {
-    seats_return::<Mark, Result<bool, AllocError>, Tally>();
-    let Ok(mut other) = hall.split(seat) else {
-        act_often(rt, hall, seat, thread, times);
-        return;
-    };
-    run_pair(rt, hall, &mut other, seat, thread, times);
-    hall.join_into(seat, other);
-}
-
-fn run_pair<R: Threads + Wait + Sync>(
-    rt: &R,
-    hall: &Hall<Tally>,
-    one: &mut Seat<Tally>,
-    two: &mut Seat<Tally>,
-    thread: u64,
-    times: u64,
-)
-    requires { IsOf hall.now one.old × IsOf hall.now two.old }
-    ensures of { IsOf hall.now one.new × IsOf hall.now two.new }
-    ensures one { Acted one.old.view one.new.view }
-    ensures two { Acted two.old.view two.new.view }
-{
-    let next = thread.wrapping_add(1);
-    join_mut(
-        rt,
-        &mut ||
-            requires { IsOf hall.now one.now }
-            ensures { IsOf hall.entry.now one.exit.now
-                × Acted one.entry.now.view one.exit.now.view }
-        { act_often(rt, hall, one, thread, times) },
-        &mut ||
-            requires { IsOf hall.now two.now }
-            ensures { IsOf hall.entry.now two.exit.now
-                × Acted two.entry.now.view two.exit.now.view }
-        { act_often(rt, hall, two, next, times) },
-    );
+    let mut first = ActOften { rt, thread, times };
+    let thread = thread.wrapping_add(1);
+    let mut second = ActOften { rt, thread, times };
+    let ((), ()) = both(rt, hall, seat, &mut first, &mut second);
 }

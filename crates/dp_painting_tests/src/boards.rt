@@ -144,18 +144,45 @@ fn draws<B: Board<Op = Draw> + BoardView, D: Ledger, T: Ledger>(
     rt: &impl Abort,
     alloc: Global,
     mut board: B,
-    case: &Case,
+    (number, case): (usize, &Case),
     draws: &mut Steps<D>,
     tiles: &mut Steps<T>,
 ) {
     for bytes in case.commands {
         let command = command(rt, alloc, bytes);
-        let copy = B::copy_op(alloc, &command).expect(rt, "memory");
-        board.draw(&copy, draws, tiles).expect(rt, "memory");
-        assert!(rt; !B::apart(&command, &command));
+        check(rt, !B::apart(&command, &command), number, "a command", 0);
+        let copy = B::copy_op(alloc, &command);
+        drop(command);
+        draw(rt, &mut board, copy.expect(rt, "memory"), draws, tiles);
     }
     let shared = board.share(draws, tiles).expect(rt, "memory");
-    looks_so(rt, &shared, case);
+    looks_so(rt, &shared, (number, case));
+    drop(board);
+    drop(shared);
+}
+
+/// Draws a command on a board.
+fn draw<B: Board<Op = Draw>, D: Ledger, T: Ledger>(
+    rt: &impl Abort,
+    board: &mut B,
+    command: Draw,
+    draws: &mut Steps<D>,
+    tiles: &mut Steps<T>,
+) {
+    let drawn = board.draw(&command, draws, tiles);
+    drop(command);
+    drawn.expect(rt, "memory");
+}
+
+/// The commands of a case.
+fn commands_of(rt: &impl Abort, alloc: Global, case: &Case) -> Vec<Draw> {
+    let mut commands = Vec::new(alloc);
+    for bytes in case.commands {
+        commands
+            .push(command(rt, alloc, bytes))
+            .expect(rt, "memory");
+    }
+    commands
 }
 
 /// Draws the commands of a case on a canvas as one batch, by `count` workers, and looks at it.
@@ -163,42 +190,58 @@ fn draws_batch<R: Threads + Sync + Abort, D: Ledger, T: Ledger>(
     rt: &R,
     alloc: Global,
     count: u32,
-    case: &Case,
+    (number, case): (usize, &Case),
     draws: &mut Steps<D>,
     tiles: &mut Steps<T>,
 ) {
-    let mut batch = Vec::new(alloc);
-    for bytes in case.commands {
-        batch.push(command(rt, alloc, bytes)).expect(rt, "memory");
-    }
+    let batch = commands_of(rt, alloc, case);
     let gate = &OpenGate;
     let mut canvas = Canvas::new(alloc);
-    canvas
-        .draw_batch(rt, &batch, &Workers { count, gate }, draws, tiles)
-        .expect(rt, "memory");
-    looks_so(rt, &canvas, case);
+    let drawn = canvas.draw_batch(rt, &batch, &Workers { count, gate }, draws, tiles);
+    drop(batch);
+    drawn.expect(rt, "memory");
+    looks_so(rt, &canvas, (number, case));
+    drop(canvas);
 }
 
-/// The board looks as the case says.
-fn looks_so<B: BoardView>(rt: &impl Abort, board: &B, case: &Case) {
-    assert!(rt; (board.width(), board.height()) == case.sides);
-    assert!(rt; board.background() == case.background);
-    has_rows(rt, board, case.rows);
-    has_pixels(rt, board, case.pixels);
+/// The test ends if this doesn't hold of a place of the case with this number.
+fn check(rt: &impl Abort, holds: bool, number: usize, what: &str, place: usize) {
+    assert!(rt; holds, "{what} {place} of case {number}");
+}
+
+/// The board looks as the case of this number says.
+fn looks_so<B: BoardView>(rt: &impl Abort, board: &B, (number, case): (usize, &Case)) {
+    let has_sides = (board.width(), board.height()) == case.sides;
+    check(
+        rt,
+        has_sides && board.background() == case.background,
+        number,
+        "sides",
+        0,
+    );
+    has_rows(rt, board, case.rows, number);
+    has_pixels(rt, board, case.pixels, number);
 }
 
 /// The board has rows of these ids and parents.
-fn has_rows<B: BoardView>(rt: &impl Abort, board: &B, rows: &[(u16, u16)]) {
-    assert!(rt; board.rows().len() == rows.len());
-    for (row, (id, parent)) in board.rows().iter().zip(rows) {
-        assert!(rt; row.id == *id && row.parent == *parent);
+fn has_rows<B: BoardView>(rt: &impl Abort, board: &B, rows: &[(u16, u16)], number: usize) {
+    check(
+        rt,
+        board.rows().len() == rows.len(),
+        number,
+        "rows",
+        rows.len(),
+    );
+    for (k, (row, (id, parent))) in board.rows().iter().zip(rows).enumerate() {
+        check(rt, row.id == *id && row.parent == *parent, number, "row", k);
     }
 }
 
 /// The board has these pixels.
-fn has_pixels<B: BoardView>(rt: &impl Abort, board: &B, pixels: &[Place]) {
-    for (id, x, y, expected) in pixels {
-        assert!(rt; board.pixel(*id, *x, *y).map(channels) == *expected);
+fn has_pixels<B: BoardView>(rt: &impl Abort, board: &B, pixels: &[Place], number: usize) {
+    for (k, (id, x, y, expected)) in pixels.iter().enumerate() {
+        let is_so = board.pixel(*id, *x, *y).map(channels) == *expected;
+        check(rt, is_so, number, "pixel", k);
     }
 }
 
@@ -536,7 +579,7 @@ fn on_all_boards<R: Threads + Sync + Abort, D: Ledger, T: Ledger>(
 {
     let mut drawn = Steps::<D>::new(draw_blank);
     let mut made = Steps::<T>::new(tile_blank);
-    for case in &CASES {
+    for case in CASES.iter().enumerate() {
         let plain = PlainBoard::new(alloc);
         draws(rt, alloc, plain, case, &mut drawn, &mut made);
         let canvas = Canvas::new(alloc);
@@ -556,10 +599,12 @@ fn commands_on_all_boards(rt: HostRuntime) {
 #[test]
 fn pairs_are_apart(rt: HostRuntime) {
     let alloc = rt.alloc();
-    for (first, second, apart) in &PAIRS {
+    for (k, (first, second, apart)) in PAIRS.iter().enumerate() {
         let (a, b) = (command(&rt, alloc, first), command(&rt, alloc, second));
-        assert!(rt; Canvas::apart(&a, &b) == *apart);
-        assert!(rt; Canvas::apart(&b, &a) == *apart);
-        assert!(rt; PlainBoard::apart(&a, &b) == *apart);
+        check(&rt, Canvas::apart(&a, &b) == *apart, k, "a pair", 0);
+        check(&rt, Canvas::apart(&b, &a) == *apart, k, "a pair", 1);
+        check(&rt, PlainBoard::apart(&a, &b) == *apart, k, "a pair", 2);
+        drop(a);
+        drop(b);
     }
 }

@@ -58,24 +58,45 @@ fn attr(id: u16, opacity: u8, mode: u8, hidden: bool) -> Draw {
     }
 }
 
-/// The board that commands make.
-pub(crate) fn board_of<D: Ledger, T: Ledger>(
+/// Draws a command on a board.
+pub(crate) fn draw<D: Ledger, T: Ledger>(
+    rt: &impl Abort,
+    board: &mut PlainBoard,
+    command: Draw,
+    draws: &mut Steps<D>,
+    tiles: &mut Steps<T>,
+) {
+    let drawn = board.draw(&command, draws, tiles);
+    drop(command);
+    drawn.expect(rt, "memory");
+}
+
+/// A board of these sides with a background.
+fn board_of<D: Ledger, T: Ledger>(
     rt: &impl Abort,
     alloc: Global,
-    commands: &[Draw],
+    (right, bottom, color): (i32, i32, u32),
     draws: &mut Steps<D>,
     tiles: &mut Steps<T>,
 ) -> PlainBoard {
     let mut board = PlainBoard::new(alloc);
-    for command in commands {
-        board.draw(command, draws, tiles).expect(rt, "memory");
-    }
+    draw(rt, &mut board, resize(right, bottom), draws, tiles);
+    draw(rt, &mut board, Draw::Background { color }, draws, tiles);
     board
+}
+
+/// A sink without faults, which takes so many bytes in pieces of this length.
+pub(crate) fn sink_of(rt: &impl Abort, alloc: Global, room: usize, piece: usize) -> MemSink
+    requires { 0 < piece }
+{
+    MemSink::new(alloc, room, piece, Vec::new(alloc)).expect(rt, "memory")
 }
 
 /// Opacities and modes of a group and of a red and a blue layer in it, and whether the group is
 /// hidden. Then the colour of the picture's one pixel, over green.
-static GROUPS: [([u8; 3], [u8; 3], bool, [u8; 3]); 6] = [
+type Group = ([u8; 3], [u8; 3], bool, [u8; 3]);
+
+static GROUPS: [Group; 6] = [
     ([255, 255, 255], [1, 1, 1], false, [0, 0, 255]),
     ([255, 255, 255], [1, 1, 1], true, [0, 255, 0]),
     ([128, 255, 255], [1, 1, 1], false, [0, 127, 128]),
@@ -84,15 +105,52 @@ static GROUPS: [([u8; 3], [u8; 3], bool, [u8; 3]); 6] = [
     ([0, 255, 255], [255, 1, 1], false, [255, 255, 255]),
 ];
 
-/// Looks at a picture of one pixel.
-fn check_pixel<V: BoardView>(rt: &impl Abort, alloc: Global, board: &V, want: [u8; 3]) {
+/// The bytes of a board's one pixel.
+fn only_pixel(rt: &impl Abort, board: &PlainBoard) -> [u8; 3] {
     assert!(rt; (board.width(), board.height()) == (1, 1));
     let pixel = flatten(board, 0, 0);
-    assert!(rt; [to8(pixel.r()), to8(pixel.g()), to8(pixel.b())] == want);
-    let mut sink = MemSink::new(alloc, 40, 5, Vec::new(alloc)).expect(rt, "memory");
+    [to8(pixel.r()), to8(pixel.g()), to8(pixel.b())]
+}
+
+/// Looks at a picture of one pixel.
+fn check_pixel(rt: &impl Abort, alloc: Global, board: &PlainBoard, want: [u8; 3]) {
+    assert!(rt; only_pixel(rt, board) == want);
+    let mut sink = sink_of(rt, alloc, 40, 5);
     assert!(rt; write_p6(alloc, board, &mut sink) == Ok(()));
     assert!(rt; sink.as_slice().starts_with(b"P6\n1 1\n255\n"));
     assert!(rt; sink.as_slice().ends_with(&want));
+    drop(sink);
+}
+
+/// Adds the rows of a group: the group, and in it a red and a blue layer.
+fn add_rows<D: Ledger, T: Ledger>(
+    rt: &impl Abort,
+    alloc: Global,
+    board: &mut PlainBoard,
+    draws: &mut Steps<D>,
+    tiles: &mut Steps<T>,
+) {
+    draw(rt, board, create(alloc, 1, 0, true), draws, tiles);
+    draw(rt, board, create(alloc, 2, 1, false), draws, tiles);
+    draw(rt, board, create(alloc, 3, 1, false), draws, tiles);
+    draw(rt, board, fill(2, RED), draws, tiles);
+    draw(rt, board, fill(3, BLUE), draws, tiles);
+}
+
+/// Sets the attributes of the rows of a group.
+fn set_rows<D: Ledger, T: Ledger>(
+    rt: &impl Abort,
+    board: &mut PlainBoard,
+    (opacity, mode, hidden, _): &Group,
+    draws: &mut Steps<D>,
+    tiles: &mut Steps<T>,
+) {
+    let group = attr(1, opacity[0], mode[0], *hidden);
+    draw(rt, board, group, draws, tiles);
+    let red = attr(2, opacity[1], mode[1], false);
+    draw(rt, board, red, draws, tiles);
+    let blue = attr(3, opacity[2], mode[2], false);
+    draw(rt, board, blue, draws, tiles);
 }
 
 /// Groups over a background.
@@ -102,21 +160,12 @@ fn check_groups<D: Ledger, T: Ledger>(
     draws: &mut Steps<D>,
     tiles: &mut Steps<T>,
 ) {
-    for (opacity, mode, hidden, want) in &GROUPS {
-        let commands = [
-            resize(1, 1),
-            Draw::Background { color: 0xff00_ff00 },
-            create(alloc, 1, 0, true),
-            create(alloc, 2, 1, false),
-            create(alloc, 3, 1, false),
-            fill(2, RED),
-            fill(3, BLUE),
-            attr(1, opacity[0], mode[0], *hidden),
-            attr(2, opacity[1], mode[1], false),
-            attr(3, opacity[2], mode[2], false),
-        ];
-        let board = board_of(rt, alloc, &commands, draws, tiles);
-        check_pixel(rt, alloc, &board, *want);
+    for group in &GROUPS {
+        let mut board = board_of(rt, alloc, (1, 1, 0xff00_ff00), draws, tiles);
+        add_rows(rt, alloc, &mut board, draws, tiles);
+        set_rows(rt, &mut board, group, draws, tiles);
+        check_pixel(rt, alloc, &board, group.3);
+        drop(board);
     }
 }
 
@@ -127,12 +176,14 @@ fn check_lines<D: Ledger, T: Ledger>(
     draws: &mut Steps<D>,
     tiles: &mut Steps<T>,
 ) {
-    let commands = [resize(2, 1), Draw::Background { color: 0x80ff_0000 }];
-    let board = board_of(rt, alloc, &commands, draws, tiles);
-    let mut sink = MemSink::new(alloc, 60, 7, Vec::new(alloc)).expect(rt, "memory");
-    assert!(rt; write_p3(alloc, &board, &mut sink) == Ok(()));
+    let board = board_of(rt, alloc, (2, 1, 0x80ff_0000), draws, tiles);
+    let mut sink = sink_of(rt, alloc, 60, 7);
+    let written = write_p3(alloc, &board, &mut sink);
+    drop(board);
+    assert!(rt; written == Ok(()));
     let lines = b"P3\n2 1\n255\n255 127 127\n255 127 127\n".as_slice();
     assert!(rt; sink.as_slice() == lines);
+    drop(sink);
 }
 
 /// A picture whose sink fails at its second write. Rows of four pixels share a piece: the head and
@@ -143,12 +194,14 @@ fn check_failing<D: Ledger, T: Ledger>(
     draws: &mut Steps<D>,
     tiles: &mut Steps<T>,
 ) {
-    let commands = [resize(4, 4096), Draw::Background { color: 0xff01_0203 }];
-    let board = board_of(rt, alloc, &commands, draws, tiles);
+    let board = board_of(rt, alloc, (4, 4096, 0xff01_0203), draws, tiles);
     let fails = Vec::from_slice(alloc, &[2]).expect(rt, "memory");
     let mut sink = MemSink::new(alloc, 60_000, 60_000, fails).expect(rt, "memory");
-    assert!(rt; write_p6(alloc, &board, &mut sink) == Err(PictureEnd::Failed));
+    let written = write_p6(alloc, &board, &mut sink);
+    drop(board);
+    assert!(rt; written == Err(PictureEnd::Failed));
     assert!(rt; sink.as_slice().len() == 14 + 4 * 3 * 4094);
+    drop(sink);
 }
 
 /// Looks at pictures with counters over these blanks.

@@ -2,11 +2,10 @@
 
 ghost use Rattle.std.specs.Prelude.{◌≡◌, ◌<◌};
 
-use crate::pictures::{board_of, create, resize};
+use crate::pictures::{create, draw, resize, sink_of};
 use dp_blend::{Pixel, of_argb};
 use dp_canvas::{Canvas, Workers};
 use dp_flat::{write_p6, write_p6_by};
-use dp_io::MemSink;
 use dp_msg_draw::Draw;
 use dp_plain::{BoardView, PlainBoard};
 use dp_steps::Steps;
@@ -68,18 +67,54 @@ fn gives_up<R: Threads + Sync + Abort>(
     workers: u32,
     want: &[u8],
 ) -> bool {
-    let gate = Held {
-        passed: AtomicU64::new(0),
-        gave_up: AtomicU64::new(0),
-    };
-    let mut sink = MemSink::new(alloc, 60_000, 60_000, Vec::new(alloc)).expect(rt, "memory");
+    let gate = new_gate();
+    let mut sink = sink_of(rt, alloc, 60_000, 60_000);
     assert!(rt; write_p6_by(rt, alloc, workers, &gate, board, &mut sink) == Ok(()));
     assert!(rt; sink.as_slice() == want);
+    drop(sink);
     gate.gave_up.load(Ordering::SeqCst) == 1
 }
 
-/// A picture of two rows of tiles, the last one cut, by some numbers of workers. Both are drawn at
+/// A gate at which nothing has passed.
+fn new_gate() -> Held {
+    Held {
+        passed: AtomicU64::new(0),
+        gave_up: AtomicU64::new(0),
+    }
+}
+
+/// A board of two rows of tiles, the last one cut, with two fills.
+fn two_rows<D: Ledger, T: Ledger>(
+    rt: &impl Abort,
+    alloc: Global,
+    draws: &mut Steps<D>,
+    tiles: &mut Steps<T>,
+) -> PlainBoard {
+    let mut board = PlainBoard::new(alloc);
+    draw(rt, &mut board, resize(70, 120), draws, tiles);
+    draw(rt, &mut board, create(alloc, 1, 0, false), draws, tiles);
+    let first = fill(3, 5, 66, 70, 0xff12_3456);
+    draw(rt, &mut board, first, draws, tiles);
+    let second = fill(0, 100, 70, 29, 0x8065_4321);
+    draw(rt, &mut board, second, draws, tiles);
+    board
+}
+
+/// A picture of a board of 70 by 120, by some numbers of workers. Both rows of tiles are drawn at
 /// the same time if there are two workers or more.
+fn check_picture<R: Threads + Sync + Abort>(rt: &R, alloc: Global, board: &PlainBoard) {
+    let mut sink = sink_of(rt, alloc, 60_000, 60_000);
+    assert!(rt; write_p6(alloc, board, &mut sink) == Ok(()));
+    let want = sink.as_slice();
+    assert!(rt; want.len() == 14 + 70 * 120 * 3);
+    assert!(rt; gives_up(rt, alloc, board, 0, want));
+    assert!(rt; gives_up(rt, alloc, board, 1, want));
+    assert!(rt; !gives_up(rt, alloc, board, 2, want));
+    assert!(rt; !gives_up(rt, alloc, board, 7, want));
+    drop(sink);
+}
+
+/// A picture of two rows of tiles, with counters over these blanks.
 fn check_workers<R: Threads + Sync + Abort, D: Ledger, T: Ledger>(
     rt: &R,
     alloc: Global,
@@ -93,21 +128,9 @@ fn check_workers<R: Threads + Sync + Abort, D: Ledger, T: Ledger>(
 {
     let mut draws = Steps::<D>::new(draw_blank);
     let mut tiles = Steps::<T>::new(tile_blank);
-    let commands = [
-        resize(70, 120),
-        create(alloc, 1, 0, false),
-        fill(3, 5, 66, 70, 0xff12_3456),
-        fill(0, 100, 70, 29, 0x8065_4321),
-    ];
-    let board = board_of(rt, alloc, &commands, &mut draws, &mut tiles);
-    let mut sink = MemSink::new(alloc, 60_000, 60_000, Vec::new(alloc)).expect(rt, "memory");
-    assert!(rt; write_p6(alloc, &board, &mut sink) == Ok(()));
-    let want = sink.as_slice();
-    assert!(rt; want.len() == 14 + 70 * 120 * 3);
-    assert!(rt; gives_up(rt, alloc, &board, 0, want));
-    assert!(rt; gives_up(rt, alloc, &board, 1, want));
-    assert!(rt; !gives_up(rt, alloc, &board, 2, want));
-    assert!(rt; !gives_up(rt, alloc, &board, 7, want));
+    let board = two_rows(rt, alloc, &mut draws, &mut tiles);
+    check_picture(rt, alloc, &board);
+    drop(board);
 }
 
 /// Has `count` workers paint two fills in a batch, each on a tile of its own. Says whether the gate
@@ -119,25 +142,33 @@ fn paints_in_turn<R: Threads + Sync + Abort, D: Ledger, T: Ledger>(
     draws: &mut Steps<D>,
     tiles: &mut Steps<T>,
 ) -> bool {
-    let gate = Held {
-        passed: AtomicU64::new(0),
-        gave_up: AtomicU64::new(0),
-    };
-    let batch = [
+    let gate = new_gate();
+    let batch = two_fills(alloc);
+    let workers = Workers { count, gate: &gate };
+    let mut canvas = Canvas::new(alloc);
+    let drawn = canvas.draw_batch(rt, &batch, &workers, draws, tiles);
+    drop(batch);
+    drawn.expect(rt, "memory");
+    check_fills(rt, &canvas);
+    drop(canvas);
+    gate.gave_up.load(Ordering::SeqCst) == 1
+}
+
+/// A canvas of two tiles with a layer, and a fill on each tile.
+fn two_fills(alloc: Global) -> [Draw; 4] {
+    [
         resize(64, 128),
         create(alloc, 1, 0, false),
         fill(0, 0, 5, 6, 0xff12_3456),
         fill(0, 64, 7, 8, 0xffff_ffff),
-    ];
-    let workers = Workers { count, gate: &gate };
-    let mut canvas = Canvas::new(alloc);
-    canvas
-        .draw_batch(rt, &batch, &workers, draws, tiles)
-        .expect(rt, "memory");
+    ]
+}
+
+/// Three pixels of the canvas after both fills.
+fn check_fills(rt: &impl Abort, canvas: &Canvas) {
     assert!(rt; canvas.pixel(1, 4, 5) == Some(of_argb(0xff12_3456)));
     assert!(rt; canvas.pixel(1, 5, 5) == Some(Pixel::CLEAR));
     assert!(rt; canvas.pixel(1, 6, 71) == Some(Pixel::WHITE));
-    gate.gave_up.load(Ordering::SeqCst) == 1
 }
 
 /// Two tiles of a batch are painted at the same time if there are two workers or more.

@@ -1,6 +1,18 @@
-use denote.Param.Send.{sendable}
-use Rattle.dp_link_tests.proofs.Sending.{counters_sync}
+use denote.Builtin.{u8, unit, u64}
+use denote.Param.Send.{IsSend, IsSync, sendable}
+use Rattle.std.proofs.Crossing.{crosses}
+use Rattle.dp_hall.proofs.Sending.{hall_sync}
+use Rattle.dp_hall.specs.contracts.hall.Hall as Hall
+use Rattle.dp_link_tests.specs.contracts.counter.Counter as Counter
+use Rattle.dp_link_tests.specs.contracts.counter.CounterMachine.TheImpl as adding
 use Rattle.dp_link_tests.proofs.counter.count_links.Goals as goal
+
+counter_send : IsSend Counter.the_row
+counter_send = search (sendable, crosses) depth 20
+
+-- halls of counters may be shared
+counters_sync : IsSync (Hall.the_row Counter.the_row u8 u64 unit u64 adding.ghosts)
+counters_sync = hall_sync Counter.the_row u8 u64 unit u64 adding.ghosts counter_send
 
 pub run_crew-ran-requires-sync-S : goal.run_crew-ran-requires-sync-S
 run_crew-ran-requires-sync-S g c κs within =
