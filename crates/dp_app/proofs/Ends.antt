@@ -13,6 +13,7 @@ use Rattle.dp_words.specs.CommandLines.{AsksFor}
 use Rattle.dp_words.specs.declared.command_line.CommandLine.{CommandLine}
 use Rattle.dp_words.specs.declared.command_line.CommandLine.TheVariants.{Local, Join, Listen}
 use Rattle.dp_words.specs.declared.command_line.LocalCommand.{LocalCommand}
+use Rattle.dp_words.specs.declared.command_line.LocalCommand.TheVariants.{World}
 use Rattle.dp_words.specs.declared.command_line.Service.{Service}
 use Rattle.dp_world.specs.RunEnds.{WorldLeaves}
 use Rattle.dp_commands.specs.Answer.{Says, SaysNoLink, SaysUsage, status_of}
@@ -36,7 +37,7 @@ OneCommand = (words : List (List ℕ)) (line other : CommandLine) → AsksFor wo
     → AsksFor words other → line ≡ other
 
 -- what follows of what a run of `world` leaves, of an input whose bytes are known
-pub due-of : {P : List ℕ → Type 0} (left old now : Option (List ℕ)) (c : Counters) (end : RunEnd)
+due-of : {P : List ℕ → Type 0} (left old now : Option (List ℕ)) (c : Counters) (end : RunEnd)
     → ((bytes : List ℕ) → WorldLeaves (Some bytes) left old now c end → P bytes)
     → (told : Option (List ℕ)) → WorldLeaves told left old now c end → IfSome told P
 due-of left old now c end law None leaves = tt
@@ -196,6 +197,18 @@ module _ {A W R T : Type 0} (see : Wires W R T) (words : List (String A)) (e : E
             (none.1.streams.2, none.1.streams.3),
             subst Tells none.0 says,
           )
+
+      -- what follows of what `world` left, of an input whose bytes may be known
+      pub due-of-world : {P : List ℕ → Type 0} → AreRuns → (ending : Ending)
+          → EndsWords see words e ending → Tells ending
+          → ((bytes : List ℕ) (end : RunEnd)
+          → WorldLeaves (Some bytes) e.streams.left e.streams.old e.streams.new
+          e.streams.counters end → P bytes)
+          → Asks words (Local World) → IfSome e.streams.input P
+      due-of-world runs ending h says due asks =
+          let run = ends-of runs ending h says World asks in
+          due-of e.streams.left e.streams.old e.streams.new e.streams.counters run.0
+          (λ bytes. due bytes run.0) e.streams.input run.1
 
       pub joins-of : (ending : Ending) → EndsWords see words e ending → Tells ending
           → (addr name : List ℕ) → Asks words (Join addr name) → e.old ≢ []

@@ -1,32 +1,17 @@
--- A store may go to another thread. The kit shows it of each part of a connection, if the disk
--- may; the disk's record of its calls owns nothing.
-use denote.Param.Send.{IsSend, owning_send, sendable}
+-- A store may go to another thread, since its table may.
+use denote.Param.Send.{IsSend, sendable, view_send}
+use denote.Param.SendFields.{declared_send}
 use Rattle.std.proofs.Crossing.{crosses}
-use Rattle.std.proofs.fs.File.TheSendSync as file
-use Rattle.sqlite_disk.proofs.modelled.Modelled.TheSendSync as modelled
-use Rattle.sqlite_disk.proofs.start.Unknown.TheSendSync as unknown
-use Rattle.sqlite_std_file.specs.contracts.host.Host as Host
-use Rattle.sqlite_std_file.specs.contracts.record.Record as Record
-use Rattle.sqlite_store.proofs.store.FileStore.TheSendSync as files
-use Rattle.sqlite.proofs.connection.Connection.TheSendSync as connection
-use Rattle.sqlite.proofs.statement.Statement.TheSendSync as statement
+use Rattle.dp_sql.proofs.Crossing.{table_send}
 use Rattle.dp_keeper_sql.specs.contracts.keeper.SqlKeeper as SqlKeeper
-
-record_send : IsSend Record.the_row
-record_send = owning_send Record.the_type (search sendable, tt) (λ d. tt) (λ k x w. tt)
-
-host_send : IsSend Host.the_row
-host_send = search (sendable, file.the_send, record_send) depth 20
+use Rattle.dp_keeper_sql.specs.contracts.keeper.SqlKeeper.TheInside as inside
 
 pub keeper_send : IsSend SqlKeeper.the_row
 keeper_send =
-    search (
-      sendable,
-      crosses,
-      connection.the_send,
-      files.the_send,
-      modelled.the_send,
-      unknown.the_send,
-      statement.the_send,
-      host_send,
-    ) depth 30
+    view_send inside.the_row _ _ _ _ (declared_send inside.the_type (
+      table_send,
+      (
+        search (sendable, crosses) depth 20,
+        (search sendable depth 20, (search sendable depth 20, tt)),
+      ),
+    ))

@@ -2,9 +2,9 @@
 
 ghost use Rattle.std.specs.Prelude.{◌≡◌, IfOk, None};
 
-use crate::table::{add, connect, find, let_go, set_up};
 use dp_keeper::{KeepError, Keeper, Row, RowBytes, Rows};
-use sqlite::{Connection, Error, ErrorCode, File, FileStore, Statement};
+use dp_sql::FileTable;
+use sqlite::{Error, ErrorCode};
 use std::alloc::Global;
 use std::marker::Model;
 
@@ -13,9 +13,7 @@ const NO_MEMORY: Error = Error::SqliteFailure(ErrorCode::OutOfMemory);
 /// Rows in a file that sqlite3 reads, in the table `journal`. Each put is a transaction of its own:
 /// when it is answered `Ok`, the row is on the disk. No clause says what a file holds.
 pub struct SqlKeeper {
-    conn: Connection<FileStore<File>>,
-    insert: Statement,
-    select: Statement,
+    table: FileTable,
     alloc: Global,
     put_faults: u64,
     read_faults: u64,
@@ -26,14 +24,11 @@ pub struct SqlKeeper {
 impl Drop for SqlKeeper {
     fn drop(self) {
         let SqlKeeper {
-            conn,
-            insert: _,
-            select: _,
+            table: _,
             alloc: _,
             put_faults: _,
             read_faults: _,
         } = self;
-        let_go(conn);
     }
 }
 
@@ -83,30 +78,14 @@ impl SqlKeeper {
     pub fn new(rt: &HostRuntime, path: &str) -> Result<SqlKeeper, KeepError>
         ensures { IfOk result (λ keeper. keeper ≡ record { puts = 0; readings = 0 }) }
     {
-        match connect(rt, path) {
-            Ok(conn) => SqlKeeper::over(rt.alloc(), conn),
-            Err(error) => Err(refusal(error)),
-        }
-    }
-
-    /// The rows of this connection.
-    fn over(alloc: Global, conn: Connection<FileStore<File>>) -> Result<SqlKeeper, KeepError>
-        ensures { IfOk result (λ keeper. keeper ≡ record { puts = 0; readings = 0 }) }
-    {
-        let mut conn = conn;
-        match set_up(&mut conn) {
-            Ok((insert, select)) => Ok(SqlKeeper {
-                conn,
-                insert,
-                select,
-                alloc,
+        match FileTable::open(rt, path) {
+            Ok(table) => Ok(SqlKeeper {
+                table,
+                alloc: rt.alloc(),
                 put_faults: 0,
                 read_faults: 0,
             }),
-            Err(error) => {
-                let_go(conn);
-                Err(refusal(error))
-            }
+            Err(error) => Err(refusal(error)),
         }
     }
 
@@ -117,8 +96,7 @@ impl SqlKeeper {
         let Ok(n) = i64::try_from(row.n) else {
             return Err(KeepError::Failed);
         };
-        let added = add(&self.insert, &mut self.conn, n, row.bytes.as_slice());
-        match added {
+        match self.table.add(n, row.bytes.as_slice()) {
             Ok(_) => Ok(()),
             Err(error) => Err(refusal(error)),
         }
@@ -129,8 +107,7 @@ impl SqlKeeper {
         ensures { self.new ≡ self.old }
     {
         let alloc = self.alloc;
-        let found = find(&self.select, &mut self.conn, from, max);
-        match found {
+        match self.table.find(from, max) {
             Ok(found) => rows_of(alloc, &found).map_err(|error| refusal(error)),
             Err(error) => Err(refusal(error)),
         }
@@ -143,14 +120,12 @@ impl SqlKeeper {
     /// The rows are in the file and its log all the same.
     pub fn close(self) -> Result<(), KeepError> {
         let SqlKeeper {
-            conn,
-            insert: _,
-            select: _,
+            table,
             alloc: _,
             put_faults: _,
             read_faults: _,
         } = self;
-        conn.close().map_err(|error| refusal(error))
+        table.close().map_err(|error| refusal(error))
     }
 }
 

@@ -5,7 +5,6 @@
 
 mod keeper;
 mod laws;
-mod table;
 
 pub use keeper::SqlKeeper;
 pub use laws::stores_cross_threads;

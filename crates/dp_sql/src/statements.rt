@@ -1,4 +1,4 @@
-//! The table of the rows, in the files of any disk.
+//! What is done with the table of the rows, in the files of any disk.
 //!
 //! Where a `FileStore` is handed to a call for any `S: Alter`, the check writes out how it is one.
 //! That takes 3 GB if the disk is named, and less for any disk. The drop of a connection is
