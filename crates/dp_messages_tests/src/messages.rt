@@ -169,8 +169,14 @@ fn is_written_as(rt: &impl Abort, alloc: Global, entry: &Entry, kind: u8, payloa
     let is_same = same(&copy.msg, &entry.msg) && copy.msg.kind() == kind;
     let written = encode(alloc, &copy);
     drop(copy);
-    let written = written.expect(rt, "memory");
-    is_same && (written.kind(), written.user()) == (kind, 7) && written.body().as_slice() == payload
+    is_same && has_payload(written.expect(rt, "memory"), kind, payload)
+}
+
+/// Whether a frame of user 7 has this kind and these bytes.
+fn has_payload(frame: Frame, kind: u8, payload: &[u8]) -> bool {
+    let is_so = (frame.kind(), frame.user()) == (kind, 7) && frame.body().as_slice() == payload;
+    drop(frame);
+    is_so
 }
 
 /// The frame of a payload, from user 7.
@@ -254,10 +260,19 @@ fn check_unspelled(rt: &impl Abort, alloc: Global, msg: Msg) {
     let frame = encode(alloc, &entry);
     drop(entry);
     let frame = frame.expect(rt, "memory");
-    assert!(rt; (frame.kind(), frame.user(), frame.body().len()) == (9, 7, 0));
-    let read = decode(alloc, &frame.view());
-    assert!(rt; matches!(&read, Err(DecodeError::Unknown(9))));
-    drop(read);
+    assert!(rt; is_unknown(alloc, &frame));
+    assert!(rt; has_payload(frame, 9, b""));
+}
+
+/// Whether a frame is of no message, as its kind is 9.
+fn is_unknown(alloc: Global, frame: &Frame) -> bool {
+    match decode(alloc, &frame.view()) {
+        Ok(entry) => {
+            drop(entry);
+            false
+        }
+        Err(error) => error == DecodeError::Unknown(9),
+    }
 }
 
 /// A message of a kind that has these bytes.
@@ -332,22 +347,39 @@ fn messages_that_differ(rt: HostRuntime) {
     assert!(rt; are_same(chat, copy));
 }
 
+/// Lists of ids, and their copies.
+fn check_ids(rt: &impl Abort, alloc: Global) {
+    let two = Vec::from_slice(alloc, &[1, 7]).expect(rt, "memory");
+    let ids = Ids::from_vec(two).copy().expect(rt, "memory");
+    assert!(rt; ids.as_slice() == [1, 7].as_slice());
+    assert!(rt; Ids::new(alloc).as_slice().is_empty());
+}
+
+/// Names, and their copies. A byte of a name may be no text.
+fn check_names(rt: &impl Abort, alloc: Global) {
+    let byte = Vec::from_slice(alloc, &[255]).expect(rt, "memory");
+    let again = byte.to_vec(alloc).expect(rt, "memory");
+    assert!(rt; Text::from_vec(again).is_none());
+    let name = NameBytes::from_vec(byte).copy().expect(rt, "memory");
+    assert!(rt; name.as_slice() == [255].as_slice());
+    assert!(rt; NameBytes::new(alloc).as_slice().is_empty());
+}
+
+/// Texts, and their copies.
+fn check_texts(rt: &impl Abort, alloc: Global) {
+    let hi = Text::from_str(alloc, "hi").expect(rt, "memory");
+    let bytes = hi.as_slice().to_vec(alloc).expect(rt, "memory");
+    drop(hi);
+    let text = Text::from_vec(bytes).expect(rt, "a text");
+    let copy = text.copy().expect(rt, "memory");
+    drop(text);
+    assert!(rt; copy.as_str() == "hi");
+    assert!(rt; Text::new(alloc).as_slice().is_empty());
+}
+
 #[test]
 fn lists_and_texts(rt: HostRuntime) {
-    let alloc = rt.alloc();
-    let two = Vec::from_slice(alloc, &[1, 7]).expect(&rt, "memory");
-    let ids = Ids::from_vec(two).copy().expect(&rt, "memory");
-    assert!(rt; ids.as_slice() == [1, 7].as_slice());
-    let byte = Vec::from_slice(alloc, &[255]).expect(&rt, "memory");
-    let again = byte.to_vec(alloc).expect(&rt, "memory");
-    let name = NameBytes::from_vec(byte).copy().expect(&rt, "memory");
-    assert!(rt; name.as_slice() == [255].as_slice());
-    assert!(rt; Text::from_vec(again).is_none());
-    let hi = Text::from_str(alloc, "hi").expect(&rt, "memory");
-    let bytes = hi.as_slice().to_vec(alloc).expect(&rt, "memory");
-    let text = Text::from_vec(bytes).expect(&rt, "a text");
-    assert!(rt; text.copy().expect(&rt, "memory").as_str() == "hi");
-    assert!(rt; Ids::new(alloc).as_slice().is_empty());
-    assert!(rt; NameBytes::new(alloc).as_slice().is_empty());
-    assert!(rt; Text::new(alloc).as_slice().is_empty());
+    check_ids(&rt, rt.alloc());
+    check_names(&rt, rt.alloc());
+    check_texts(&rt, rt.alloc());
 }
