@@ -1,10 +1,10 @@
 //! A server and two painters over the loopback. Each has the wires that its words want, as `main`
 //! gives them. `main` itself can't be called here.
 
-use dp_app_runs::{outcome_of, words_of};
+use crate::wires::wires_of;
+use dp_app_runs::{Left, outcome_of, words_of};
 use dp_io::{MemSink, MemSource};
-use dp_sockets::wires_for;
-use dp_wire::{TcpWire, Wire};
+use dp_wire::Wire;
 use std::alloc::Global;
 use std::net::{Net, TcpListener, TcpStream};
 use std::process::Abort;
@@ -69,45 +69,95 @@ P3
 0 0 255
 ";
 
-/// Runs words over these wires with this script, and looks at what is printed.
+/// What a painter reads, and where the program prints and says things.
+#[derive(Drop)]
+struct Streams {
+    input: MemSource,
+    output: MemSink,
+    diag: MemSink,
+}
+
+/// A sink of a thousand bytes.
+fn sink_of(rt: &impl Abort, alloc: Global) -> MemSink {
+    MemSink::new(alloc, 1000, 64, Vec::new(alloc)).expect(rt, "memory")
+}
+
+/// Streams whose input is this script.
+fn streams_of(rt: &impl Abort, alloc: Global, script: &str) -> Streams {
+    let script = Vec::from_slice(alloc, script.as_bytes()).expect(rt, "memory");
+    Streams {
+        input: MemSource::new(script, 64, Vec::new(alloc)),
+        output: sink_of(rt, alloc),
+        diag: sink_of(rt, alloc),
+    }
+}
+
+/// The status of a run, of which the rest is let go.
+fn status_of<W: Drop, K: Drop>(left: Left<W, K>) -> u8 {
+    let Left {
+        status,
+        wires,
+        keeper,
+        reports,
+    } = left;
+    drop(wires);
+    drop(keeper);
+    drop(reports);
+    status
+}
+
+/// Runs the words of a line over these wires: its status.
+fn run<R: Threads + Wait + Sync + Abort, W: Wire + Send + Drop>(
+    rt: &R,
+    alloc: Global,
+    line: &str,
+    wires: Vec<W>,
+    streams: &mut Streams,
+) -> u8 {
+    let words = words_of(alloc, line).expect(rt, "memory");
+    let input = &mut streams.input;
+    let (output, diag) = (&mut streams.output, &mut streams.diag);
+    let left = outcome_of(rt, alloc, &words, input, output, diag, wires);
+    drop(words);
+    status_of(left)
+}
+
+/// Runs the words of a line over these wires with this script, and looks at what is printed.
 fn check<R: Threads + Wait + Sync + Abort, W: Wire + Send + Drop>(
     rt: &R,
     alloc: Global,
-    words: &[String],
-    wires: Vec<W>,
-    script: &str,
-    printed: &str,
-) {
-    let script = Vec::from_slice(alloc, script.as_bytes()).expect(rt, "memory");
-    let mut input = MemSource::new(script, 64, Vec::new(alloc));
-    let mut output = MemSink::new(alloc, 1000, 64, Vec::new(alloc)).expect(rt, "memory");
-    let mut diag = MemSink::new(alloc, 1000, 64, Vec::new(alloc)).expect(rt, "memory");
-    let left = outcome_of(rt, alloc, words, &mut input, &mut output, &mut diag, wires);
-    assert!(rt; diag.as_slice() == b"".as_slice());
-    assert!(rt; left.status == 0);
-    assert!(rt; output.as_slice() == printed.as_bytes());
-}
-
-/// The words of a line, and the wires for them.
-fn words_and_wires<N: Net<Listener = TcpListener, Stream = TcpStream> + Copy + Drop + Abort>(
-    net: &N,
-    alloc: Global,
     line: &str,
-) -> (Vec<String>, Vec<TcpWire<N>>) {
-    let words = words_of(alloc, line).expect(net, "memory");
-    let wires = wires_for(net, alloc, &words).ok().expect(net, "memory");
-    (words, wires)
+    wires: Vec<W>,
+    (script, printed): (&str, &str),
+) {
+    let mut streams = streams_of(rt, alloc, script);
+    let status = run(rt, alloc, line, wires, &mut streams);
+    assert!(rt; streams.diag.as_slice() == b"".as_slice());
+    assert!(rt; status == 0);
+    assert!(rt; streams.output.as_slice() == printed.as_bytes());
+    drop(streams);
 }
 
 /// A painter joins the server at this port.
-fn paint<R>(rt: &R, alloc: Global, port: u16, name: &str, script: &str, printed: &str)
+fn paint<R>(rt: &R, alloc: Global, port: u16, name: &str, texts: (&str, &str))
 where
     R: Threads + Wait + Send + Sync + Abort + Copy + Drop,
     R: Net<Listener = TcpListener, Stream = TcpStream>,
 {
     let line = format!(in alloc; "join 127.0.0.1:{port} {name}").expect(rt, "memory");
-    let (words, wires) = words_and_wires(rt, alloc, line.as_str());
-    check(rt, alloc, &words, wires, script, printed);
+    let wires = wires_of(rt, alloc, line.as_str());
+    check(rt, alloc, line.as_str(), wires, texts);
+    drop(line);
+}
+
+/// Ann paints, and then Bob.
+fn paint_both<R>(rt: &R, alloc: Global, port: u16)
+where
+    R: Threads + Wait + Send + Sync + Abort + Copy + Drop,
+    R: Net<Listener = TcpListener, Stream = TcpStream>,
+{
+    paint(rt, alloc, port, "ann", (ANN, ANN_PRINTS));
+    paint(rt, alloc, port, "bob", (BOB, BOB_PRINTS));
 }
 
 /// The server runs in a thread of its own, and Bob comes when Ann is done.
@@ -117,7 +167,7 @@ where
     R: Net<Listener = TcpListener, Stream = TcpStream>,
 {
     let serve = "serve 127.0.0.1:0 --workers 2 --conns 1";
-    let (words, wires) = words_and_wires(rt, alloc, serve);
+    let wires = wires_of(rt, alloc, serve);
     let port = wires
         .first()
         .expect(rt, "a wire")
@@ -125,11 +175,8 @@ where
         .expect(rt, "a port");
     thread::join(
         rt,
-        move || check(rt, alloc, &words, wires, "", ""),
-        move || {
-            paint(rt, alloc, port, "ann", ANN, ANN_PRINTS);
-            paint(rt, alloc, port, "bob", BOB, BOB_PRINTS);
-        },
+        move || check(rt, alloc, serve, wires, ("", "")),
+        move || paint_both(rt, alloc, port),
     );
 }
 

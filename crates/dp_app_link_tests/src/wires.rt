@@ -9,13 +9,29 @@ use std::net::{Net, TcpListener, TcpStream};
 use std::process::Abort;
 
 /// The wires for these words, which are separated by spaces.
-fn wires_of<N: Net<Listener = TcpListener, Stream = TcpStream> + Copy + Drop + Abort>(
+pub(crate) fn wires_of<N: Net<Listener = TcpListener, Stream = TcpStream> + Copy + Drop + Abort>(
     rt: &N,
     alloc: Global,
     text: &str,
 ) -> Vec<TcpWire<N>> {
     let words = words_of(alloc, text).expect(rt, "memory");
-    wires_for(rt, alloc, &words).ok().expect(rt, "memory")
+    let wires = wires_for(rt, alloc, &words);
+    drop(words);
+    wires.ok().expect(rt, "memory")
+}
+
+/// The last of the wires for these words, of which there are so many.
+fn last_of<N: Net<Listener = TcpListener, Stream = TcpStream> + Copy + Drop + Abort>(
+    rt: &N,
+    alloc: Global,
+    text: &str,
+    count: usize,
+) -> TcpWire<N> {
+    let mut wires = wires_of(rt, alloc, text);
+    assert!(rt; wires.len() == count);
+    let wire = wires.pop().expect(rt, "a wire");
+    drop(wires);
+    wire
 }
 
 /// Dials the server, and sends four bytes over the link.
@@ -34,17 +50,35 @@ fn check_link<N: Net<Listener = TcpListener, Stream = TcpStream> + Copy + Drop +
     joining.done(near_rx, near_tx);
 }
 
+/// The words that join the server at a wire's port.
+fn joining_line<N: Net<Listener = TcpListener, Stream = TcpStream> + Copy + Drop + Abort>(
+    rt: &N,
+    alloc: Global,
+    wire: &TcpWire<N>,
+) -> String {
+    let port = wire.port().expect(rt, "a port");
+    format!(in alloc; "join 127.0.0.1:{port} ann").expect(rt, "memory")
+}
+
+/// The wires that listen, and the one that dials them.
+fn check_wires<N: Net<Listener = TcpListener, Stream = TcpStream> + Copy + Drop + Abort>(
+    rt: &N,
+    alloc: Global,
+) {
+    let mut serving = last_of(rt, alloc, "serve 127.0.0.1:0 --workers 2", 2);
+    let line = joining_line(rt, alloc, &serving);
+    let mut joining = last_of(rt, alloc, line.as_str(), 1);
+    check_link(rt, &mut serving, &mut joining);
+    drop(serving);
+    drop(joining);
+    drop(last_of(rt, alloc, line.as_str(), 1));
+    drop(line);
+    let none = wires_of(rt, alloc, "play");
+    assert!(rt; none.is_empty());
+    drop(none);
+}
+
 #[test]
 fn words_have_their_wires(rt: HostRuntime) {
-    let mut serving = wires_of(&rt, rt.alloc(), "serve 127.0.0.1:0 --workers 2");
-    assert!(rt; serving.len() == 2);
-    let mut wire = serving.pop().expect(&rt, "a wire");
-    let port = wire.port().expect(&rt, "a port");
-    let line = format!(in rt.alloc(); "join 127.0.0.1:{port} ann").expect(&rt, "memory");
-    let mut joining = wires_of(&rt, rt.alloc(), line.as_str());
-    assert!(rt; joining.len() == 1);
-    let mut dialer = joining.pop().expect(&rt, "a wire");
-    check_link(&rt, &mut wire, &mut dialer);
-    assert!(rt; wires_of(&rt, rt.alloc(), "play").len() == 0);
-    assert!(rt; wires_of(&rt, rt.alloc(), line.as_str()).len() == 1);
+    check_wires(&rt, rt.alloc());
 }

@@ -96,15 +96,25 @@ fn port_of<N: Net<Listener = TcpListener, Stream = TcpStream> + Copy + Drop>(
     port.expect(rt, "a port")
 }
 
-// Two wires share one listener: a link that was dialed at the port of one is given by the other.
+/// A wire, the near end of a link that was dialed at its port, and the far end, which it gave. Two
+/// wires share one listener: the port was that of the other one.
+fn both_ends<N: Net<Listener = TcpListener, Stream = TcpStream> + Copy + Drop + Abort>(
+    rt: &N,
+    alloc: Global,
+) -> (TcpWire<N>, (TcpRx, TcpTx), (TcpRx, TcpTx)) {
+    let (mut wire, other) = listen(rt, alloc);
+    let mut dialer = dialer(rt, alloc, port_of(rt, other));
+    let near = dialed(rt, &mut dialer);
+    drop(dialer);
+    let far = accepted(rt, &mut wire);
+    (wire, near, far)
+}
+
 #[test]
 fn bytes_go_both_ways(rt: HostRuntime) {
-    let (mut wire, other) = listen(&rt, rt.alloc());
-    let port = port_of(&rt, other);
-    let mut dialer = dialer(&rt, rt.alloc(), port);
-    let (mut near_rx, mut near_tx) = dialed(&rt, &mut dialer);
-    drop(dialer);
-    let (mut far_rx, mut far_tx) = accepted(&rt, &mut wire);
+    let (mut wire, near, far) = both_ends(&rt, rt.alloc());
+    let (mut near_rx, mut near_tx) = near;
+    let (mut far_rx, mut far_tx) = far;
     let mut buf = [0; 9];
     assert!(rt; sends(&mut near_tx, b"ping"));
     assert!(rt; received(&rt, &mut far_rx, &mut buf) == 4);
@@ -176,6 +186,7 @@ fn a_listener_is_shut(rt: HostRuntime) {
     };
     let mut wires = TcpWire::listen(&net, rt.alloc(), "127.0.0.1:0", 1).expect(&rt, "a wire");
     let mut wire = wires.pop().expect(&rt, "a wire");
+    drop(wires);
     shut(&rt, &listener);
     let accepted = wire.accept().err();
     drop(wire);
@@ -257,26 +268,48 @@ fn check_settings(rt: &impl Abort, stream: &TcpStream) {
     assert!(rt; limit == None);
 }
 
+/// A stream that was dialed at a listener's port, and its peer.
+fn stream_and_peer<N: Net<Listener = TcpListener, Stream = TcpStream> + Abort>(
+    rt: &N,
+    listener: &TcpListener,
+) -> (TcpStream, TcpStream) {
+    let port = listener.local_addr().expect(rt, "an address").port();
+    let stream = peer_of(rt, port);
+    let (peer, _) = listener.accept().expect(rt, "a peer");
+    (stream, peer)
+}
+
+/// A link over a copy of this stream.
+fn link_over(
+    rt: &impl Abort,
+    alloc: Global,
+    listener: &TcpListener,
+    stream: &TcpStream,
+) -> (TcpRx, TcpTx) {
+    let net = Shared {
+        listener,
+        stream: Some(stream),
+    };
+    let mut wire = TcpWire::dialer(&net, alloc, "127.0.0.1:1").expect(rt, "memory");
+    let link = dialed(rt, &mut wire);
+    drop(wire);
+    link
+}
+
 // If the peer stops reading, a write fails in the end, and lets go of the thread that reads. A
 // stream's settings are those of each copy of it: the test shortens the limit of a write.
 #[test]
 fn a_peer_stops_reading(rt: HostRuntime) {
     let listener = listener(&rt);
-    let port = listener.local_addr().expect(&rt, "an address").port();
-    let stream = TcpStream::connect(&rt, (Ipv4Addr::LOCALHOST, port)).expect(&rt, "a stream");
-    let (peer, _) = listener.accept().expect(&rt, "a peer");
-    let net = Shared {
-        listener: &listener,
-        stream: Some(&stream),
-    };
-    let mut wire = TcpWire::dialer(&net, rt.alloc(), "127.0.0.1:1").expect(&rt, "memory");
-    let (mut rx, tx) = dialed(&rt, &mut wire);
-    drop(wire);
+    let (stream, peer) = stream_and_peer(&rt, &listener);
+    let (mut rx, tx) = link_over(&rt, rt.alloc(), &listener, &stream);
+    drop(listener);
     check_settings(&rt, &stream);
     let limit = Some(Duration::from_millis(100));
     stream.set_write_timeout(limit).expect(&rt, "a limit");
     let (read, failed) = thread::join(&rt, move || rx.read(&mut [0]), move || fill(tx));
+    drop(stream);
+    drop(peer);
     assert!(rt; failed);
     assert!(rt; read == Ok(0));
-    drop(peer);
 }

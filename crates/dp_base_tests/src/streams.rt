@@ -127,16 +127,19 @@ fn put_all_writes_a_prefix(rt: HostRuntime) {
 }
 
 #[test]
-fn adapters_pass_the_bytes_on(rt: HostRuntime) {
-    let alloc = rt.alloc();
+fn sources_pass_the_bytes_on(rt: HostRuntime) {
     let mut source = StdSource::new(BYTES.as_slice());
     let mut prefix = [0; 3];
     assert!(rt; source.read(&mut prefix) == Ok(3));
     assert!(rt; prefix == [3, 1, 4]);
     let mut source = StdSource::new(source.into_inner());
-    let bytes = read_all(&rt, alloc, &mut source);
+    let bytes = read_all(&rt, rt.alloc(), &mut source);
     assert!(rt; are(&bytes, &[1, 5, 9, 2]));
-    let mut sink = StdSink::new(Vec::new(alloc));
+}
+
+#[test]
+fn sinks_pass_the_bytes_on(rt: HostRuntime) {
+    let mut sink = StdSink::new(Vec::new(rt.alloc()));
     assert!(rt; put_all(&mut sink, &BYTES) == Ok(()));
     assert!(rt; are(&sink.into_inner(), &BYTES));
 }

@@ -224,6 +224,17 @@ fn is_as_wanted(rt: &impl Abort, alloc: Global, painter: &Painter) -> bool {
     painter.fork.pending_len() == painter.said.len() && numbers_of(rt, view) == numbers
 }
 
+/// A painter who sees a blank row of numbers.
+fn painter_of(rt: &impl Abort, alloc: Global) -> Painter {
+    let blank = NumberBoard::new(alloc, NUMBERS).expect(rt, "memory");
+    Painter {
+        confirmed: Rollback::new(alloc, blank, 30).expect(rt, "memory"),
+        fork: Fork::new(alloc),
+        taken: Vec::new(alloc),
+        said: VecDeque::new(alloc),
+    }
+}
+
 /// Runs a script, and compares what is seen with the plain rule after each word.
 fn check_script<D: Ledger, T: Ledger>(
     rt: &impl Abort,
@@ -232,18 +243,12 @@ fn check_script<D: Ledger, T: Ledger>(
     draws: &mut Steps<D>,
     tiles: &mut Steps<T>,
 ) {
-    let blank = NumberBoard::new(alloc, NUMBERS).expect(rt, "memory");
-    let confirmed = Rollback::new(alloc, blank, 30).expect(rt, "memory");
-    let mut painter = Painter {
-        confirmed,
-        fork: Fork::new(alloc),
-        taken: Vec::new(alloc),
-        said: VecDeque::new(alloc),
-    };
+    let mut painter = painter_of(rt, alloc);
     for (place, letters) in script.split_whitespace().enumerate() {
         step(rt, &mut painter, (letters, place), quietly, draws, tiles);
         check(rt, is_as_wanted(rt, alloc, &painter), letters, script);
     }
+    drop(painter);
 }
 
 /// Scripts: echoes, strangers that meet the fork or don't, undo on both sides, and words that were

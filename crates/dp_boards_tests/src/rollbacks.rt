@@ -92,12 +92,22 @@ fn check_script<D: Ledger, T: Ledger>(
     for (k, word) in script.split_whitespace().enumerate() {
         let act = act_of(rt, word, k);
         let change = take(&mut rollback, &act, draws, tiles).expect(rt, "memory");
-        let has_letter = has_letter(change, k, changes);
-        check(rt, has_letter, word, script);
         acts.push(act).expect(rt, "memory");
-        let shows_replay = numbers_of(rt, rollback.board()) == replayed(rt, alloc, depth, &acts);
-        check(rt, shows_replay, word, script);
+        let is_so = has_letter(change, k, changes) && shows(rt, alloc, &rollback, depth, &acts);
+        check(rt, is_so, word, script);
     }
+    drop(rollback);
+}
+
+/// Whether a rollback shows the replay of these acts.
+fn shows(
+    rt: &impl Abort,
+    alloc: Global,
+    rollback: &Rollback<NumberBoard>,
+    depth: u32,
+    acts: &[UserAct<SetNumber>],
+) -> bool {
+    numbers_of(rt, rollback.board()) == replayed(rt, alloc, depth, acts)
 }
 
 /// A depth, a script and the letters of its changes.

@@ -117,6 +117,21 @@ fn replayed<D: Ledger, T: Ledger>(
     board
 }
 
+/// Draws the commands of the words said.
+fn draw_said<B: Board<Op = Draw>, D: Ledger, T: Ledger>(
+    rt: &impl Abort,
+    painter: &Painter<B>,
+    board: &mut PlainBoard,
+    draws: &mut Steps<D>,
+    tiles: &mut Steps<T>,
+) {
+    for word in &painter.said {
+        let act = word.act(painter.alloc);
+        draw_act(rt, board, &act, draws, tiles);
+        drop(act);
+    }
+}
+
 /// The rows by the plain rule: that of the acts taken that are drawn, and that with the commands of
 /// the words said.
 fn wanted<B: Board<Op = Draw>, D: Ledger, T: Ledger>(
@@ -127,11 +142,10 @@ fn wanted<B: Board<Op = Draw>, D: Ledger, T: Ledger>(
 ) -> (Row, Row) {
     let mut board = replayed(rt, painter.alloc, &painter.taken, draws, tiles);
     let confirmed = row_of(&board);
-    for word in &painter.said {
-        let act = word.act(painter.alloc);
-        draw_act(rt, &mut board, &act, draws, tiles);
-    }
-    (confirmed, row_of(&board))
+    draw_said(rt, painter, &mut board, draws, tiles);
+    let seen = row_of(&board);
+    drop(board);
+    (confirmed, seen)
 }
 
 /// The rows that are seen: the confirmed one, and that with what was said.
@@ -282,6 +296,23 @@ fn step<B: Board<Op = Draw> + BoardView, D: Ledger, T: Ledger>(
     }
 }
 
+/// A painter who sees a blank board.
+fn painter_of<B: Board<Op = Draw>, D: Ledger, T: Ledger>(
+    rt: &impl Abort,
+    alloc: Global,
+    blank: &B,
+    draws: &mut Steps<D>,
+    tiles: &mut Steps<T>,
+) -> Painter<B> {
+    let first = blank.share(draws, tiles).expect(rt, "memory");
+    Painter {
+        screen: Screen::new(alloc, first, DEPTH).expect(rt, "memory"),
+        taken: Vec::new(alloc),
+        said: VecDeque::new(alloc),
+        alloc,
+    }
+}
+
 /// Runs a script from a blank board on, and compares what is seen with the plain rule after each
 /// word.
 fn check_script<B: Board<Op = Draw> + BoardView, D: Ledger, T: Ledger>(
@@ -291,19 +322,14 @@ fn check_script<B: Board<Op = Draw> + BoardView, D: Ledger, T: Ledger>(
     draws: &mut Steps<D>,
     tiles: &mut Steps<T>,
 ) {
-    let first = blank.share(draws, tiles).expect(rt, "memory");
-    let mut painter = Painter {
-        screen: Screen::new(alloc, first, DEPTH).expect(rt, "memory"),
-        taken: Vec::new(alloc),
-        said: VecDeque::new(alloc),
-        alloc,
-    };
+    let mut painter = painter_of(rt, alloc, blank, draws, tiles);
     let mut blue: u8 = 0;
     for letters in script.split_whitespace() {
         blue = blue.saturating_add(8);
         step(rt, &mut painter, (letters, blue), blank, draws, tiles);
         check_rows(rt, &painter, letters, draws, tiles);
     }
+    drop(painter);
 }
 
 /// Scripts: echoes, strangers that meet the fork or don't, undo on both sides, and words that were
@@ -324,6 +350,19 @@ static SCRIPTS: [&str; 13] = [
     "tZ0 tC0 xO0 sP0 sD2 eP0 eD2 sD3 eD3 tP0 tD4 tU0 tR0 sU0 eU0 tD2 sR0 eR0 sD5 lD5 tD5",
 ];
 
+/// Runs each script from a blank board on.
+fn check_scripts<B: Board<Op = Draw> + BoardView + Drop, D: Ledger, T: Ledger>(
+    rt: &impl Abort,
+    alloc: Global,
+    blank: B,
+    draws: &mut Steps<D>,
+    tiles: &mut Steps<T>,
+) {
+    for script in &SCRIPTS {
+        check_script(rt, (alloc, &blank), script, draws, tiles);
+    }
+}
+
 /// Runs each script on both kinds of board, with counters over these blanks.
 fn check_all<D: Ledger, T: Ledger>(
     rt: &impl Abort,
@@ -338,11 +377,8 @@ fn check_all<D: Ledger, T: Ledger>(
 {
     let mut draws = Steps::<D>::new(draw_blank);
     let mut tiles = Steps::<T>::new(tile_blank);
-    let (plain, canvas) = (PlainBoard::new(alloc), Canvas::new(alloc));
-    for script in &SCRIPTS {
-        check_script(rt, (alloc, &plain), script, &mut draws, &mut tiles);
-        check_script(rt, (alloc, &canvas), script, &mut draws, &mut tiles);
-    }
+    check_scripts(rt, alloc, PlainBoard::new(alloc), &mut draws, &mut tiles);
+    check_scripts(rt, alloc, Canvas::new(alloc), &mut draws, &mut tiles);
 }
 
 #[test]

@@ -1,6 +1,7 @@
 //! Word lists of each kind, and the devices that they want.
 
 use Wanted::*;
+use clap::ArgMatches;
 use dp_lines::long_number;
 use dp_words::{
     CommandLine, Devices, Form, Kind, LocalCommand, Service, Word, program_of, read_words,
@@ -71,66 +72,66 @@ static LINES: [(&str, Wanted); 23] = [
     ),
 ];
 
-/// Words that ask for nothing.
-static REFUSED: [&str; 57] = [
-    "",
-    "paint",
-    "Replay",
-    "rep",
-    "replay|replay",
-    "replay|--at|1",
-    "world|x",
-    "play|--at",
-    "play|--at|",
-    "play|--at|+3",
-    "play|--at|03",
-    "play|--at|-1",
-    "play|--at|4294967296",
-    "play|--at|1|--at|2",
-    "play|7",
-    "play|--workers|0",
-    "play|--workers|65",
-    "play|--workers|+3",
-    "play|--workers|1|--workers|1",
-    "drill",
-    "drill|1",
-    "drill|1|1",
-    "drill|1|1|1|1",
-    "drill|1|1|0",
-    "drill|1|1|65",
-    "drill|1|100001|1",
-    "drill|18446744073709551616|1|1",
-    "drill|-1|1|1",
-    "drill|01|1|1",
-    "drill|x|1|1",
-    "drill|1|+1|1",
-    "join",
-    "join|a",
-    "join|a|",
-    "join|a|b|c",
-    "join|a|123456789012345678901234567890123",
-    "serve",
-    "serve|a:1",
-    "serve|a:1|--conns|1",
-    "serve|a:1|--workers",
-    "serve|--workers|2",
-    "serve|a:1|b|--workers|2",
-    "serve|a:1|--workers|0",
-    "serve|a:1|--workers|65",
-    "serve|a:1|--workers|+3",
-    "serve|a:1|--workers|03",
-    "serve|a:1|--workers|2|--workers|2",
-    "serve|a:1|--workers|2|--conns",
-    "serve|a:1|--workers|2|--conns|0",
-    "serve|a:1|--workers|2|--conns|+3",
-    "serve|a:1|--workers|2|--conns|03",
-    "serve|a:1|--workers|2|--conns|4294967296",
-    "serve|a:1|--workers|2|--journal",
-    "serve|a:1|--workers|2|--journal|b|--journal|b",
-    "--help",
-    "help",
-    "play|--version",
-];
+/// Lines of words that ask for nothing. One of them is empty.
+static REFUSED: &str = "\
+paint
+
+Replay
+rep
+replay|replay
+replay|--at|1
+world|x
+play|--at
+play|--at|
+play|--at|+3
+play|--at|03
+play|--at|-1
+play|--at|4294967296
+play|--at|1|--at|2
+play|7
+play|--workers|0
+play|--workers|65
+play|--workers|+3
+play|--workers|1|--workers|1
+drill
+drill|1
+drill|1|1
+drill|1|1|1|1
+drill|1|1|0
+drill|1|1|65
+drill|1|100001|1
+drill|18446744073709551616|1|1
+drill|-1|1|1
+drill|01|1|1
+drill|x|1|1
+drill|1|+1|1
+join
+join|a
+join|a|
+join|a|b|c
+join|a|123456789012345678901234567890123
+serve
+serve|a:1
+serve|a:1|--conns|1
+serve|a:1|--workers
+serve|--workers|2
+serve|a:1|b|--workers|2
+serve|a:1|--workers|0
+serve|a:1|--workers|65
+serve|a:1|--workers|+3
+serve|a:1|--workers|03
+serve|a:1|--workers|2|--workers|2
+serve|a:1|--workers|2|--conns
+serve|a:1|--workers|2|--conns|0
+serve|a:1|--workers|2|--conns|+3
+serve|a:1|--workers|2|--conns|03
+serve|a:1|--workers|2|--conns|4294967296
+serve|a:1|--workers|2|--journal
+serve|a:1|--workers|2|--journal|b|--journal|b
+--help
+help
+play|--version
+";
 
 /// The words of a line.
 fn words_of(rt: &impl Abort, alloc: Global, line: &str) -> Vec<String> {
@@ -192,26 +193,41 @@ fn is_wanted(line: &Option<CommandLine>, wanted: Wanted) -> bool {
     }
 }
 
+/// The command line that words are, if they are one.
+fn line_of(rt: &impl Abort, alloc: Global, line: &str) -> Option<CommandLine> {
+    let words = words_of(rt, alloc, line);
+    let read = read_words(alloc, &words);
+    drop(words);
+    read.expect(rt, "memory")
+}
+
+/// The test ends if this doesn't hold of a line.
+fn check(rt: &impl Abort, holds: bool, line: &str) {
+    assert!(rt; holds, "{line}");
+}
+
 #[test]
 fn each_kind_of_line(rt: HostRuntime) {
-    let alloc = rt.alloc();
     for (line, wanted) in &LINES {
-        let words = words_of(&rt, alloc, line);
-        let read = read_words(alloc, &words).expect(&rt, "memory");
-        assert!(rt; is_wanted(&read, *wanted), "{line}");
+        let read = line_of(&rt, rt.alloc(), line);
+        check(&rt, is_wanted(&read, *wanted), line);
+        drop(read);
     }
 }
 
 #[test]
 fn lines_that_ask_for_nothing(rt: HostRuntime) {
-    let alloc = rt.alloc();
-    for line in &REFUSED {
-        let words = words_of(&rt, alloc, line);
-        let read = read_words(alloc, &words).expect(&rt, "memory");
-        assert!(rt; read.is_none(), "{line}");
+    let mut count = 0u64;
+    for line in REFUSED.lines() {
+        let read = line_of(&rt, rt.alloc(), line);
+        check(&rt, read.is_none(), line);
+        drop(read);
+        count = count.saturating_add(1);
     }
-    let read = read_words(alloc, &[]).expect(&rt, "memory");
+    assert!(rt; count == 57);
+    let read = read_words(rt.alloc(), &[]).expect(&rt, "memory");
     assert!(rt; read.is_none());
+    drop(read);
 }
 
 /// Whether these devices are a dial, or some wires, at an address, with such a file, or none.
@@ -250,13 +266,20 @@ static DEVICES: [(&str, bool, u32, &str, Option<&str>); 6] = [
     ("serve|a:1|--workers|0|--journal|b", false, 0, "", None),
 ];
 
+/// The devices that words want.
+fn devices_of(rt: &impl Abort, alloc: Global, line: &str) -> Devices {
+    let words = words_of(rt, alloc, line);
+    let devices = wanted(alloc, &words);
+    drop(words);
+    devices.expect(rt, "memory")
+}
+
 #[test]
 fn devices_of_lines(rt: HostRuntime) {
-    let alloc = rt.alloc();
     for (line, dials, count, at, file) in &DEVICES {
-        let words = words_of(&rt, alloc, line);
-        let devices = wanted(alloc, &words).expect(&rt, "memory");
-        assert!(rt; is_device(&devices, *dials, *count, at, *file), "{line}");
+        let devices = devices_of(&rt, rt.alloc(), line);
+        check(&rt, is_device(&devices, *dials, *count, at, *file), line);
+        drop(devices);
     }
 }
 
@@ -298,11 +321,13 @@ static NUMBERS: [(&str, &str, Option<&[u64]>); 14] = [
     ("drill|--seed|1|2", "seed", None),
 ];
 
-/// The numbers of 64 bits that the words give to a name, if they are words of a form.
-fn numbers_of(rt: &impl Abort, alloc: Global, line: &str, id: &str) -> Option<Vec<u64>> {
-    let words = words_of(rt, alloc, line);
-    let program = program_of(alloc, "test", &FORMS).expect(rt, "memory");
-    let matches = program.try_get_matches_from(&words).ok()?;
+/// The numbers of 64 bits that are given to a name, if they are such numbers.
+fn given_numbers(
+    rt: &impl Abort,
+    alloc: Global,
+    matches: &ArgMatches,
+    id: &str,
+) -> Option<Vec<u64>> {
     let (_, given) = matches.subcommand()?;
     let mut numbers = Vec::new(alloc);
     for word in given.get_strs(id)? {
@@ -312,16 +337,44 @@ fn numbers_of(rt: &impl Abort, alloc: Global, line: &str, id: &str) -> Option<Ve
     Some(numbers)
 }
 
+/// The numbers of 64 bits that words give to a name, if they are words of a form.
+fn matched_numbers(rt: &impl Abort, alloc: Global, words: &[String], id: &str) -> Option<Vec<u64>> {
+    let program = program_of(alloc, "test", &FORMS).expect(rt, "memory");
+    match program.try_get_matches_from(words) {
+        Ok(matches) => {
+            let numbers = given_numbers(rt, alloc, &matches, id);
+            drop(matches);
+            numbers
+        }
+        Err(error) => {
+            drop(error);
+            None
+        }
+    }
+}
+
+/// The numbers that the words of a line give to a name.
+fn numbers_of(rt: &impl Abort, alloc: Global, line: &str, id: &str) -> Option<Vec<u64>> {
+    let words = words_of(rt, alloc, line);
+    let numbers = matched_numbers(rt, alloc, &words, id);
+    drop(words);
+    numbers
+}
+
+/// Whether these are the numbers that are wanted.
+fn are_numbers(numbers: &Option<Vec<u64>>, wanted: Option<&[u64]>) -> bool {
+    match (numbers, wanted) {
+        (Some(numbers), Some(wanted)) => numbers.as_slice() == wanted,
+        (None, None) => true,
+        _ => false,
+    }
+}
+
 #[test]
 fn forms_of_a_table(rt: HostRuntime) {
     several_words_are_found();
     for (line, id, wanted) in &NUMBERS {
         let numbers = numbers_of(&rt, rt.alloc(), line, id);
-        let same = match (&numbers, wanted) {
-            (Some(numbers), Some(wanted)) => numbers.as_slice() == *wanted,
-            (None, None) => true,
-            _ => false,
-        };
-        assert!(rt; same, "{line}");
+        check(&rt, are_numbers(&numbers, *wanted), line);
     }
 }

@@ -7,6 +7,7 @@ use dp_lines::{
     lines_seen, number, one_end, one_number, one_way, put_hex, put_number, still_left, whole_lines,
     word, word_count,
 };
+use std::alloc::Global;
 use std::process::Abort;
 
 /// A text, and its lines that aren't passed over.
@@ -56,26 +57,39 @@ fn finish(rt: &impl Abort, lines: &mut Lines, given: &mut Vec<Line>) {
     }
 }
 
-/// Compares lines with those that are wanted.
-fn compare(rt: &impl Abort, given: &[Line], wanted: &[(u32, &[u8])]) {
-    assert!(rt; given.len() == wanted.len());
+/// Whether lines are those that are wanted.
+fn are_lines(given: &[Line], wanted: &[(u32, &[u8])]) -> bool {
     for (line, (number, bytes)) in given.iter().zip(wanted) {
-        assert!(rt; line.number == *number);
-        assert!(rt; line.bytes.as_slice() == *bytes);
+        if line.number != *number || line.bytes.as_slice() != *bytes {
+            return false;
+        }
     }
+    given.len() == wanted.len()
+}
+
+/// The test ends if this doesn't hold at a place of a table.
+fn check(rt: &impl Abort, holds: bool, table: &str, place: usize) {
+    assert!(rt; holds, "{table}: {place}");
+}
+
+/// Feeds a text that is cut at this place. Its lines are those that are wanted.
+fn check_cut(rt: &impl Abort, alloc: Global, (text, wanted): &Row, cut: usize) {
+    let mut lines = Lines::new(alloc);
+    let mut given = Vec::new(alloc);
+    assert!(rt; text.len() <= 100 && cut <= text.len());
+    feed(rt, &mut lines, &text[..cut], &mut given);
+    feed(rt, &mut lines, &text[cut..], &mut given);
+    finish(rt, &mut lines, &mut given);
+    check(rt, are_lines(&given, wanted), "a cut", cut);
+    drop(given);
+    drop(lines);
 }
 
 #[test]
 fn lines_do_not_depend_on_the_pieces(rt: HostRuntime) {
-    for (text, wanted) in &ROWS {
-        for cut in 0..=text.len() {
-            let mut lines = Lines::new(rt.alloc());
-            let mut given = Vec::new(rt.alloc());
-            assert!(rt; text.len() <= 100 && cut <= text.len());
-            feed(&rt, &mut lines, &text[..cut], &mut given);
-            feed(&rt, &mut lines, &text[cut..], &mut given);
-            finish(&rt, &mut lines, &mut given);
-            compare(&rt, &given, wanted);
+    for row in &ROWS {
+        for cut in 0..=row.0.len() {
+            check_cut(&rt, rt.alloc(), row, cut);
         }
     }
 }
@@ -106,20 +120,32 @@ static LENGTHS: [(u8, usize, bool, Told, Told); 7] = [
 
 const LONG: Told = Err(LineError::Long(3));
 
+/// Two lines that are passed over, and after them one with this first byte, of this length, with
+/// its newline or not.
+fn long_line(rt: &impl Abort, alloc: Global, first: u8, len: usize, ended: bool) -> Lines {
+    let mut text = vec![in alloc; b'#'; len].expect(rt, "memory");
+    assert!(rt; 0 < text.len() && text.len() < 1_000_000);
+    text[0] = first;
+    let mut lines = Lines::new(alloc);
+    lines.feed(b"#\n\n").expect(rt, "memory");
+    lines.feed(&text).expect(rt, "memory");
+    if ended {
+        lines.feed(b"\n").expect(rt, "memory");
+    }
+    lines
+}
+
+/// Whether this is given.
+fn is_told(answer: Result<Option<Line>, LineError>, wanted: &Told) -> bool {
+    told(answer) == *wanted
+}
+
 #[test]
 fn a_line_has_at_most_131100_bytes(rt: HostRuntime) {
-    for (first, len, ended, next, last) in &LENGTHS {
-        let mut text = vec![in rt.alloc(); b'#'; *len].expect(&rt, "memory");
-        assert!(rt; 0 < text.len() && text.len() < 1_000_000);
-        text[0] = *first;
-        let mut lines = Lines::new(rt.alloc());
-        lines.feed(b"#\n\n").expect(&rt, "memory");
-        lines.feed(&text).expect(&rt, "memory");
-        if *ended {
-            lines.feed(b"\n").expect(&rt, "memory");
-        }
-        assert!(rt; told(lines.next_line()) == *next);
-        assert!(rt; told(lines.finish()) == *last);
+    for (k, (first, len, ended, next, last)) in LENGTHS.iter().enumerate() {
+        let mut lines = long_line(&rt, rt.alloc(), *first, *len, *ended);
+        check(&rt, is_told(lines.next_line(), next), "a next line", k);
+        check(&rt, is_told(lines.finish(), last), "a last line", k);
     }
 }
 
@@ -127,12 +153,12 @@ fn a_line_has_at_most_131100_bytes(rt: HostRuntime) {
 fn a_comment_without_end_is_counted(rt: HostRuntime) {
     let mut lines = Lines::new(rt.alloc());
     lines.feed(b"#a").expect(&rt, "memory");
-    assert!(rt; told(lines.next_line()) == Ok(None));
+    assert!(rt; is_told(lines.next_line(), &Ok(None)));
     lines.feed(b"b\n#c").expect(&rt, "memory");
-    assert!(rt; told(lines.finish()) == Ok(None));
+    assert!(rt; is_told(lines.finish(), &Ok(None)));
     lines.feed(b"last").expect(&rt, "memory");
-    assert!(rt; told(lines.finish()) == Ok(Some((3, 4))));
-    assert!(rt; told(lines.finish()) == Ok(None));
+    assert!(rt; is_told(lines.finish(), &Ok(Some((3, 4)))));
+    assert!(rt; is_told(lines.finish(), &Ok(None)));
 }
 
 /// Lines, and their words.
@@ -145,16 +171,27 @@ static WORDS: [(&[u8], &[&[u8]]); 6] = [
     (b"a b\r", &[b"a", b"b\r"]),
 ];
 
+/// The first line, of these bytes.
+fn line_of(rt: &impl Abort, alloc: Global, bytes: &[u8]) -> Line {
+    let bytes = LineBytes::from_vec(Vec::from_slice(alloc, bytes).expect(rt, "memory"));
+    Line { number: 1, bytes }
+}
+
+/// Whether a line has these words, and no others.
+fn has_words(line: &Line, words: &[&[u8]]) -> bool {
+    for (k, text) in words.iter().enumerate() {
+        if !word(line, k).is_some_and(|word| word == *text) {
+            return false;
+        }
+    }
+    word_count(line) == words.len() && word(line, words.len()).is_none()
+}
+
 #[test]
 fn words_are_parted_by_single_spaces(rt: HostRuntime) {
-    for (bytes, wanted) in &WORDS {
-        let bytes = LineBytes::from_vec(Vec::from_slice(rt.alloc(), bytes).expect(&rt, "memory"));
-        let line = Line { number: 1, bytes };
-        assert!(rt; word_count(&line) == wanted.len());
-        for (k, text) in wanted.iter().enumerate() {
-            assert!(rt; word(&line, k).is_some_and(|word| word == *text));
-        }
-        assert!(rt; word(&line, wanted.len()).is_none());
+    for (k, (bytes, wanted)) in WORDS.iter().enumerate() {
+        let line = line_of(&rt, rt.alloc(), bytes);
+        check(&rt, has_words(&line, wanted), "words", k);
     }
     let bytes = LineBytes::new(rt.alloc());
     assert!(rt; (word_count(&Line { number: 1, bytes })) == 1);
@@ -176,15 +213,21 @@ static NUMBERS: [(&[u8], Option<u32>); 12] = [
     (b"\xff3", None),
 ];
 
+/// Whether a number is written as this text.
+fn is_written(rt: &impl Abort, alloc: Global, number: u32, text: &[u8]) -> bool {
+    let mut out = Vec::from_slice(alloc, b"n ").expect(rt, "memory");
+    put_number(number, &mut out).expect(rt, "memory");
+    assert!(rt; out.len() > 2);
+    &out[2..] == text
+}
+
 #[test]
 fn numbers_at_the_edges(rt: HostRuntime) {
-    for (text, wanted) in &NUMBERS {
-        assert!(rt; number(text) == *wanted);
-        if let Some(n) = wanted {
-            let mut out = Vec::from_slice(rt.alloc(), b"n ").expect(&rt, "memory");
-            put_number(*n, &mut out).expect(&rt, "memory");
-            assert!(rt; out.len() > 2);
-            assert!(rt; &out[2..] == *text);
+    for (k, (text, wanted)) in NUMBERS.iter().enumerate() {
+        check(&rt, number(text) == *wanted, "numbers", k);
+        if let Some(number) = wanted {
+            let is_written = is_written(&rt, rt.alloc(), *number, text);
+            check(&rt, is_written, "numbers written", k);
         }
     }
 }
@@ -202,9 +245,10 @@ static DIGITS: [(&[u8], Option<&[u8]>); 7] = [
 
 #[test]
 fn digits_of_either_case(rt: HostRuntime) {
-    for (text, wanted) in &DIGITS {
+    for (k, (text, wanted)) in DIGITS.iter().enumerate() {
         let found = hex_of(rt.alloc(), text).expect(&rt, "memory");
-        assert!(rt; found.as_ref().map(|bytes| bytes.as_slice()) == *wanted);
+        let is_wanted = found.as_ref().map(|bytes| bytes.as_slice()) == *wanted;
+        check(&rt, is_wanted, "digits", k);
     }
     let mut out = Vec::from_slice(rt.alloc(), b"rec ").expect(&rt, "memory");
     put_hex(b"\x00\xab\x0f", &mut out).expect(&rt, "memory");
