@@ -18,6 +18,7 @@ pub fn with_ahead(
 ) -> Result<Made, AllocError>
     ensures event { IfOk result (λ made. made.event ≡ event) }
     ensures ahead { IfOk result (λ made. ahead ≡ Ok (made.effect, made.supply)) }
+    ensures done { is_ok result ≡ is_ok ahead }
 {
     match ahead {
         Ok((effect, supply)) => Ok(Made {
