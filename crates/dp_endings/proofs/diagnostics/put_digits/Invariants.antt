@@ -1,7 +1,7 @@
 use Rattle.std.proofs.Common.{◌≡◌, take}
 use Rattle.std.specs.Io.KnownBytes.{Appends}
 use Rattle.dp_lines.specs.Hexadecimal.{hex_text}
-use Rattle.dp_commands.proofs.diagnostics.put_digits.Given as goal
+use Rattle.dp_endings.proofs.diagnostics.put_digits.Given as goal
 
 -- the digits of the bytes before the place were put, and no fault was counted
 abbrev pub invariant-loop-byte : goal.invariant-loop-byte

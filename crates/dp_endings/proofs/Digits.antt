@@ -12,7 +12,7 @@ use Rattle.hex.specs.Hex.{encode_with, lower_digits}
 use Rattle.dp_io.specs.Streams.{GrowsByPrefix}
 use Rattle.dp_io.proofs.Prefixes.{grows_after, grows_within}
 use Rattle.dp_lines.specs.Hexadecimal.{hex_text}
-use Rattle.dp_commands.specs.Endings.{bad_row_line}
+use Rattle.dp_endings.specs.Endings.{bad_row_line}
 
 -- ---- digits
 

@@ -1,5 +1,5 @@
-use Rattle.dp_commands.proofs.Digits.{row-begun, row-ended, row-part, row-whole}
-use Rattle.dp_commands.proofs.diagnostics.put_bad_row.Goals as goal
+use Rattle.dp_endings.proofs.Digits.{row-begun, row-ended, row-part, row-whole}
+use Rattle.dp_endings.proofs.diagnostics.put_bad_row.Goals as goal
 
 pub returns-in_err-put_place-clause-prefix : goal.returns-in_err-put_place-clause-prefix
 returns-in_err-put_place-clause-prefix g c =

@@ -1,6 +1,6 @@
 use Rattle.std.proofs.Common.{◌∙◌, refl}
-use Rattle.dp_commands.proofs.Digits.{digits-more, digits-none, digits-part}
-use Rattle.dp_commands.proofs.diagnostics.put_digits.Goals as goal
+use Rattle.dp_endings.proofs.Digits.{digits-more, digits-none, digits-part}
+use Rattle.dp_endings.proofs.diagnostics.put_digits.Goals as goal
 
 pub loop-byte-init : goal.loop-byte-init
 loop-byte-init g c =

@@ -4,8 +4,8 @@ ghost use Rattle.std.specs.Prelude.{◌≡◌, ◌≤◌, ◌++◌, ◌∷◌, [
 ghost use Rattle.std.specs.Io.KnownBytes.{Appends};
 ghost use Rattle.dp_io.specs.Faults.{HasCause, any_fault};
 ghost use Rattle.dp_io.specs.Streams.{GrowsByPrefix};
-ghost use Rattle.dp_commands.specs.Answer.{line_of, SaysLine};
-ghost use Rattle.dp_commands.specs.Endings.{bad_row_line, code_of, ending_line};
+ghost use Rattle.dp_endings.specs.Answer.{line_of, SaysLine};
+ghost use Rattle.dp_endings.specs.Endings.{bad_row_line, code_of, ending_line};
 ghost use Rattle.dp_lines.specs.Hexadecimal.{hex_text};
 
 use crate::ending::Ending;

@@ -1,7 +1,7 @@
 //! The status of each way to end.
 
 ghost use Rattle.std.specs.Prelude.{◌≡◌};
-ghost use Rattle.dp_commands.specs.Answer.{status_of};
+ghost use Rattle.dp_endings.specs.Answer.{status_of};
 
 use dp_lines::RunEnd;
 

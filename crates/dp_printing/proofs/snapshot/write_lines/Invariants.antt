@@ -2,7 +2,7 @@ use Rattle.std.proofs.Common.{◌≡◌, take}
 use Rattle.std.specs.List.{flat_map}
 use Rattle.std.specs.Io.KnownBytes.{Appends}
 use Rattle.dp_showing.specs.Showing.{snapshot_line}
-use Rattle.dp_showing.proofs.snapshot.write_lines.Given as goal
+use Rattle.dp_printing.proofs.snapshot.write_lines.Given as goal
 
 -- the texts of those before the place were written, and no fault was counted
 abbrev pub invariant-loop-command : goal.invariant-loop-command
