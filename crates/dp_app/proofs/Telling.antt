@@ -18,8 +18,7 @@ use Rattle.dp_endings.specs.declared.ending.Ending.{Ending}
 use Rattle.dp_endings.specs.declared.ending.Ending.TheVariants.{Usage, NoLink, NoWords, Run}
 use Rattle.dp_endings.specs.declared.ending.Ending.TheVariants.{StoreFault, BadRow}
 use Rattle.dp_commands.specs.Effects.{Effects, NothingIsDone, Streams, Untouched, Wires}
-use Rattle.dp_endings.specs.Endings.{code_of}
-use Rattle.dp_endings.specs.Endings.{ending_line}
+use Rattle.dp_endings.specs.Endings.{code_of, ending_line}
 use Rattle.dp_commands.specs.Faults.{AskAndFailed, WireFailed}
 use Rattle.dp_commands.specs.Joins.{JoinsOn}
 use Rattle.dp_commands.specs.Kinds.{NothingRuns, EndsWords, RunsLocally}

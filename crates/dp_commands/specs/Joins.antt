@@ -6,8 +6,7 @@ use Rattle.dp_endings.specs.declared.ending.Ending.{Ending}
 use Rattle.dp_endings.specs.declared.ending.Ending.TheVariants.{NoWords, Run}
 use Rattle.dp_endings.specs.Answer.{SaysLine}
 use Rattle.dp_commands.specs.Effects.{Effects, NothingIsDone, KeepsNothing, Streams, Wires}
-use Rattle.dp_endings.specs.Endings.{code_of}
-use Rattle.dp_endings.specs.Endings.{ending_line}
+use Rattle.dp_endings.specs.Endings.{code_of, ending_line}
 
 -- the streams as a run over a link sees them
 abbrev pub ends_of : Streams → Ends
