@@ -1,6 +1,7 @@
--- A table may go to another thread. The kit shows it of each part of the store, if the disk may;
--- the disk's record of its calls owns nothing.
+-- A table may go to another thread. The kit shows it of the store, if the disk may; the disk's
+-- record of its calls owns nothing.
 use denote.Param.Send.{IsSend, owning_send, sendable}
+use denote.Param.SendFields.{declared_send}
 use Rattle.std.proofs.Crossing.{crosses}
 use Rattle.sqlite_disk.proofs.modelled.Modelled.TheSendSync as modelled
 use Rattle.sqlite_std_file.specs.contracts.host.Host as Host
@@ -16,4 +17,7 @@ host_send = search (sendable, record_send) depth 20
 
 pub table_send : IsSend FileTable.the_row
 table_send =
-    search (sendable, crosses, files.the_send, modelled.the_send, host_send) depth 30
+    declared_send FileTable.the_type (
+      search (sendable, crosses, files.the_send, modelled.the_send, host_send) depth 30,
+      (search (sendable, crosses) depth 20, tt),
+    )

@@ -48,10 +48,14 @@ impl FileTable {
     /// `Failed` if the file can't be opened, holds anything else or is in use, and `Memory` if
     /// memory ran out.
     pub fn open(rt: &HostRuntime, path: &str) -> Result<FileTable, KeepError> {
-        let files = sqlite_std_file::open(rt, path, Unknown).map_err(|error| refusal(error))?;
-        let seed = RandomState::new(rt)
-            .map_err(|error| io_refusal(error))?
-            .hash_one(&0u8);
+        let seed = match RandomState::new(rt) {
+            Ok(state) => state.hash_one(&0u8),
+            Err(error) => return Err(io_refusal(error)),
+        };
+        let files = match sqlite_std_file::open(rt, path, Unknown) {
+            Ok(files) => files,
+            Err(error) => return Err(refusal(error)),
+        };
         let alloc = rt.alloc();
         let store = trees::open(alloc, files, seed)?;
         Ok(FileTable { store, alloc })
@@ -64,7 +68,10 @@ impl FileTable {
     /// `Failed` if the number is there already or if the file failed, and `Memory` if memory ran
     /// out.
     pub fn add(&mut self, n: i64, bytes: &[u8]) -> Result<(), KeepError> {
-        trees::add(&mut self.store, self.alloc, n, bytes).map_err(|error| trees::refusal(error))
+        match trees::add(&mut self.store, self.alloc, n, bytes) {
+            Ok(()) => Ok(()),
+            Err(error) => Err(trees::refusal(error)),
+        }
     }
 
     /// The rows from a number on, in order, at most `max`. A number below 0 is no row's, and is
@@ -74,7 +81,10 @@ impl FileTable {
     ///
     /// `Failed` if the file failed, and `Memory` if memory ran out.
     pub fn find(&mut self, from: i64, max: u32) -> Result<Rows, KeepError> {
-        trees::find(&mut self.store, self.alloc, from, max).map_err(|error| trees::refusal(error))
+        match trees::find(&mut self.store, self.alloc, from, max) {
+            Ok(rows) => Ok(rows),
+            Err(error) => Err(trees::refusal(error)),
+        }
     }
 
     /// Copies the log into the file, and closes both.
@@ -84,6 +94,9 @@ impl FileTable {
     /// The rows are in the file and its log all the same.
     pub fn close(self) -> Result<(), KeepError> {
         let FileTable { store, alloc: _ } = self;
-        trees::close(store).map_err(|error| trees::refusal(error))
+        match trees::close(store) {
+            Ok(()) => Ok(()),
+            Err(error) => Err(trees::refusal(error)),
+        }
     }
 }

@@ -3,11 +3,12 @@
 //! Functions here are for any disk: a check writes out how the files that are named are one. No
 //! clause says what the files hold, so that no caller's proof carries what the store says of them.
 
-ghost use Rattle.std.specs.Prelude.{IsTrue, IsSome, IfOk};
-ghost use Rattle.sqlite_store.specs.Unopened.{AreUsable};
+ghost use Rattle.std.specs.Prelude.{◌≡◌, IsTrue, IsSome, IfOk, IfErr};
+ghost use Rattle.sqlite_pager.specs.Pager.{files};
+ghost use Rattle.sqlite_store.specs.Unopened.{AreUsable, files_of};
 ghost use Rattle.sqlite_store.specs.FileStore.{view};
 ghost use Rattle.sqlite_trees.specs.Tree.{rowid};
-ghost use Rattle.sqlite_trees.specs.View.{IsRowidKey, is_int};
+ghost use Rattle.sqlite_trees.specs.View.{IsClean, IsRowidKey, is_int};
 
 use dp_keeper::{KeepError, Row, RowBytes, Rows};
 use sqlite_disk::{Disk, Files};
@@ -19,7 +20,7 @@ use sqlite_trees::store::{Direction, Shape, Store};
 use sqlite_value::row as record;
 use sqlite_value::value::ValueRef;
 use sqlite_wal::PageSize;
-use std::alloc::{AllocError, Global};
+use std::alloc::{AllocError, AllocFailed, Global};
 
 /// The bytes of a page.
 const PAGE: usize = 4096;
@@ -30,15 +31,12 @@ const TABLE: u32 = 0;
 /// The number of the cursor that readings use.
 const CURSOR: u16 = 0;
 
-/// The table, as the file lists it.
-const JOURNAL: Object<'static> = Object {
-    shape: Shape::Table,
-    kind: "table",
-    name: "journal",
-    table: "journal",
-    reals: 0,
-    sql: Some("CREATE TABLE journal (n INTEGER PRIMARY KEY, bytes BLOB NOT NULL) STRICT"),
-};
+/// The text by which a file lists the table.
+const TEXT: &str = "CREATE TABLE journal (n INTEGER PRIMARY KEY, bytes BLOB NOT NULL) STRICT";
+
+/// The same in files of this program until December 2026.
+const OLDER_TEXT: &str =
+    "CREATE TABLE IF NOT EXISTS journal (n INTEGER PRIMARY KEY, bytes BLOB NOT NULL) STRICT";
 
 /// Why nothing was done, by what the store said.
 pub(crate) fn refusal(error: StoreError) -> KeepError {
@@ -48,11 +46,28 @@ pub(crate) fn refusal(error: StoreError) -> KeepError {
     }
 }
 
-/// The same of an opening.
-fn open_refusal(error: OpenError) -> KeepError {
-    match error {
-        OpenError::OutOfMemory => KeepError::Memory,
-        _ => KeepError::Failed,
+/// What this pager reads, which is to hold the table alone.
+fn listed<D: Disk + Drop>(
+    alloc: Global,
+    pager: Pager<D>,
+    text: &str,
+) -> Result<Unopened<D>, AllocError>
+    ensures { IfOk result (λ it. files_of it ≡ files pager) }
+{
+    let journal = Object {
+        shape: Shape::Table,
+        kind: "table",
+        name: "journal",
+        table: "journal",
+        reals: 0,
+        sql: Some(text),
+    };
+    match Unopened::new(alloc, pager, &[journal]) {
+        Ok(it) => Ok(it),
+        Err(AllocFailed { value }) => {
+            drop(value.close());
+            Err(AllocError)
+        }
     }
 }
 
@@ -61,16 +76,61 @@ fn unopened<D: Disk + Drop>(
     alloc: Global,
     files: Files<D>,
     seed: u64,
+    text: &str,
 ) -> Result<Unopened<D>, AllocError>
     requires log { IsTrue (D.Disk.is_usable files.log) }
     requires db { IsTrue (D.Disk.is_usable files.db) }
     ensures { IfOk result AreUsable }
 {
-    let Some(size) = PageSize::new(PAGE) else {
-        return Err(AllocError);
-    };
-    let pager = Pager::new(alloc, files, size, Options::new(seed))?;
-    Ok(Unopened::new(alloc, pager, &[JOURNAL])?)
+    let size = PageSize::new(PAGE).unwrap();
+    match Pager::new(alloc, files, size, Options::new(seed)) {
+        Ok(pager) => listed(alloc, pager, text),
+        Err(AllocFailed { value }) => {
+            drop(value);
+            Err(AllocError)
+        }
+    }
+}
+
+/// The files that weren't opened, if they may be used.
+fn files_left<D: Disk + Drop>(left: Unopened<D>) -> Result<Files<D>, KeepError>
+    ensures log { IfOk result (λ files. IsTrue (D.Disk.is_usable files.log)) }
+    ensures db { IfOk result (λ files. IsTrue (D.Disk.is_usable files.db)) }
+{
+    let files = left.close();
+    if files.may_be_used() {
+        Ok(files)
+    } else {
+        Err(KeepError::Failed)
+    }
+}
+
+/// Closes the files, and says why they weren't opened.
+fn refuse<D: Disk + Drop>(error: OpenError, left: Unopened<D>) -> KeepError {
+    drop(left.close());
+    match error {
+        OpenError::OutOfMemory => KeepError::Memory,
+        _ => KeepError::Failed,
+    }
+}
+
+/// Opens files that list the table by this text. It gives other files back.
+fn open_by<D: Disk + Drop>(
+    alloc: Global,
+    files: Files<D>,
+    seed: u64,
+    text: &str,
+) -> Result<Result<FileStore<D>, Files<D>>, KeepError>
+    requires log { IsTrue (D.Disk.is_usable files.log) }
+    requires db { IsTrue (D.Disk.is_usable files.db) }
+    ensures log { IfOk result (λ it. IfErr it (λ files. IsTrue (D.Disk.is_usable files.log))) }
+    ensures db { IfOk result (λ it. IfErr it (λ files. IsTrue (D.Disk.is_usable files.db))) }
+{
+    match unopened(alloc, files, seed, text)?.open() {
+        Ok(store) => Ok(Ok(store)),
+        Err((OpenError::Refused, left)) => Ok(Err(files_left(left)?)),
+        Err((error, left)) => Err(refuse(error, left)),
+    }
 }
 
 /// Makes the table in files that hold nothing.
@@ -78,13 +138,13 @@ fn create<D: Disk + Drop>(
     alloc: Global,
     files: Files<D>,
     seed: u64,
-) -> Result<FileStore<D>, KeepError> {
-    if !files.may_be_used() {
-        return Err(KeepError::Failed);
-    }
-    match unopened(alloc, files, seed)?.create() {
+) -> Result<FileStore<D>, KeepError>
+    requires log { IsTrue (D.Disk.is_usable files.log) }
+    requires db { IsTrue (D.Disk.is_usable files.db) }
+{
+    match unopened(alloc, files, seed, TEXT)?.create() {
         Ok(store) => Ok(store),
-        Err((error, _)) => Err(open_refusal(error)),
+        Err((error, left)) => Err(refuse(error, left)),
     }
 }
 
@@ -97,10 +157,13 @@ pub(crate) fn open<D: Disk + Drop>(
     requires log { IsTrue (D.Disk.is_usable files.log) }
     requires db { IsTrue (D.Disk.is_usable files.db) }
 {
-    match unopened(alloc, files, seed)?.open() {
+    let files = match open_by(alloc, files, seed, TEXT)? {
+        Ok(store) => return Ok(store),
+        Err(files) => files,
+    };
+    match open_by(alloc, files, seed, OLDER_TEXT)? {
         Ok(store) => Ok(store),
-        Err((OpenError::Refused, left)) => create(alloc, left.close(), seed),
-        Err((error, _)) => Err(open_refusal(error)),
+        Err(files) => create(alloc, files, seed),
     }
 }
 
@@ -167,11 +230,7 @@ pub(crate) fn add<D: Disk>(
 }
 
 /// The rows at the cursor, at most that many.
-fn rows_at<D: Disk>(
-    store: &mut FileStore<D>,
-    alloc: Global,
-    max: u32,
-) -> Result<Rows, StoreError>
+fn rows_at<D: Disk>(store: &mut FileStore<D>, alloc: Global, max: u32) -> Result<Rows, StoreError>
     requires { IsSome ((view store.old).cursors CURSOR) }
 {
     let mut found = record::Row::new(alloc);
