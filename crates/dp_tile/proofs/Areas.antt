@@ -8,7 +8,7 @@ use Rattle.std.specs.Prelude.{All, replicate, nat_le, nat_lt, Result, OnOk, OnEr
 use Rattle.std.proofs.lemmas.Bool.{cases_lt, leb-true, ltb-true, le-leb, lt-ltb, and_parts}
 use Rattle.std.proofs.lemmas.Bool.{false≢true}
 use Rattle.std.proofs.lemmas.List.{get_or_append_left, get_or-append-add, length-take-le}
-use Rattle.std.proofs.lemmas.List.{get_or-take, get_or-drop, append-nil}
+use Rattle.std.proofs.lemmas.List.{get_or-take, get_or-drop, append-nil, take-append-drop}
 use Rattle.std.proofs.lemmas.List.Elements.{All-append, All-take, All-drop, All-nil, All-cons}
 use Rattle.std.proofs.lemmas.List.Elements.{All-head, All-tail}
 use Rattle.dp_blend.specs.Color.{Channels, clear}
@@ -75,6 +75,13 @@ module _ {X : Type 0} (from to : ℕ) (xs : List X) (order : from ≤ to)
         ∙ get_or-drop (to - from) (drop from xs) (i - to) d
         ∙ get_or-drop from xs (to - from + (i - to)) d
         ∙ ap (λ k. get_or xs k d) back
+
+-- a list with its own part in its place
+pub with_own_part : {X : Type 0} (from to : ℕ) (xs : List X)
+    → with_part from to xs (part from to xs) ≡ xs
+with_own_part from to xs =
+    ap (λ rest. take from xs ++ rest) (take-append-drop (to - from) (drop from xs))
+    ∙ take-append-drop from xs
 
 -- ---- painted cells and rows
 

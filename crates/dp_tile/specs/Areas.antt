@@ -1,6 +1,7 @@
 -- Rectangles of cells, and what is painted on them.
 use Rattle.std.specs.Prelude.{◌≡◌, ℕ, ◌+◌, ◌-◌, ◌<◌, List, [], ◌∷◌, ◌++◌, take, drop}
-use Rattle.std.specs.Prelude.{Bool, ◌&&◌, nat_le, nat_lt, if◌then◌else◌, ◌≤◌, ◌≢◌}
+use Rattle.std.specs.Prelude.{Bool, ◌&&◌, nat_le, nat_lt, if◌then◌else◌, ◌≤◌, ◌≢◌, Result}
+use Rattle.std.specs.Prelude.{MatchResult}
 use Rattle.std.specs.List.{range_with_len, sum_by}
 use Rattle.dp_blend.specs.Color.{Channels}
 use Rattle.dp_tile.specs.declared.area.CellArea.{CellArea}
@@ -63,6 +64,10 @@ pub record IsUpTo (painted : Painted) (area : CellArea) (row : ℕ) (old new : T
       → cell_at new col k ≡ cell_at old col k
   pub above : (col k : ℕ) → k < area.top → col < old.cols → cell_at new col k ≡ cell_at old col k
   pub below : (col k : ℕ) → row ≤ k → col < old.cols → cell_at new col k ≡ cell_at old col k
+
+-- after a call that went well a value is the wanted one, and after one that failed it stayed
+abbrev pub BecameOrStayed : {X T E : Type 0} → Result T E → X → X → X → Type 0
+BecameOrStayed result old new wanted = MatchResult result (λ _. new ≡ wanted) (λ _. new ≡ old)
 
 -- the elements of a list from one index on before another
 abbrev pub part : {X : Type 0} → ℕ → ℕ → List X → List X

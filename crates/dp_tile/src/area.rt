@@ -2,7 +2,8 @@
 
 ghost use Rattle.std.specs.Prelude.{◌≡◌, ◌+◌, ◌*◌, ◌-◌, ◌<◌, ◌≤◌, length, replicate, All, IfSome};
 ghost use Rattle.std.specs.Prelude.{OnOk, OnErr};
-ghost use Rattle.dp_tile.specs.Areas.{area_painted, cells_painted, row_painted, rows_painted};
+ghost use Rattle.dp_tile.specs.Areas.{BecameOrStayed, area_painted, cells_painted};
+ghost use Rattle.dp_tile.specs.Areas.{row_painted, rows_painted};
 ghost use Rattle.dp_tile.specs.Tiles.{tile_of};
 
 use crate::painter::{TileChange, TilePainter};
@@ -96,6 +97,15 @@ fn color_after<P: TilePainter>(work: &Work<P>, row: u32, cells: &Row) -> Option<
     }
 }
 
+// Puts a value in the place of another, if all went well.
+fn put_if_ok<X: Drop>(done: &Result<(), AllocError>, place: &mut X, value: X)
+    ensures { BecameOrStayed done.now place.old place.new value }
+{
+    if done.is_ok() {
+        *place = value;
+    }
+}
+
 // Paints the slots that are left of a row, from a cell on, and the columns of the rows below. All
 // tiles are made this grid's alone before the first is painted.
 #[cycle(painting)]
@@ -110,13 +120,11 @@ fn paint_cells<P: TilePainter, T: Ledger>(
     requires cols { cell.col + length slots.old ≤ 64 }
     requires rows { cell.row + length below.old < 64 }
     requires wide { All (λ row. work.now.right ≤ length row) below.old }
-    ensures slots { OnOk result (slots.new
-        ≡ cells_painted (P.painted work.now.painter.now) cell.col cell.row slots.old) }
-    ensures below { OnOk result (below.new
-        ≡ rows_painted (P.painted work.now.painter.now) work.now.left work.now.right (cell.row + 1)
+    ensures slots { BecameOrStayed result slots.old slots.new
+        (cells_painted (P.painted work.now.painter.now) cell.col cell.row slots.old) }
+    ensures below { BecameOrStayed result below.old below.new
+        (rows_painted (P.painted work.now.painter.now) work.now.left work.now.right (cell.row + 1)
         below.old) }
-    ensures slots_stay { OnErr result (slots.new ≡ slots.old) }
-    ensures below_stay { OnErr result (below.new ≡ below.old) }
     ensures tiles_rise { tiles.old ≤ tiles.new }
     ensures few_tiles { tiles.new
         ≤ tiles.old + length slots.old + length below.old * (work.now.right - work.now.left) }
@@ -138,9 +146,8 @@ fn paint_rows<P: TilePainter, T: Ledger>(
 ) -> Result<(), AllocError>
     requires rows { row + length rows.old ≤ 64 }
     requires wide { All (λ row. work.now.right ≤ length row) rows.old }
-    ensures rows { OnOk result (rows.new
-        ≡ rows_painted (P.painted work.now.painter.now) work.now.left work.now.right row rows.old) }
-    ensures rows_stay { OnErr result (rows.new ≡ rows.old) }
+    ensures rows { BecameOrStayed result rows.old rows.new
+        (rows_painted (P.painted work.now.painter.now) work.now.left work.now.right row rows.old) }
     ensures tiles_rise { tiles.old ≤ tiles.new }
     ensures few_tiles { tiles.new
         ≤ tiles.old + length rows.old * (work.now.right - work.now.left) }
@@ -165,13 +172,11 @@ fn paint_row<P: TilePainter, T: Ledger>(
     requires rows { row + length below.old < 64 }
     requires first { work.now.right ≤ length first.old }
     requires wide { All (λ row. work.now.right ≤ length row) below.old }
-    ensures first { OnOk result (first.new
-        ≡ row_painted (P.painted work.now.painter.now) work.now.left work.now.right row first.old) }
-    ensures below { OnOk result (below.new
-        ≡ rows_painted (P.painted work.now.painter.now) work.now.left work.now.right (row + 1)
+    ensures first { BecameOrStayed result first.old first.new
+        (row_painted (P.painted work.now.painter.now) work.now.left work.now.right row first.old) }
+    ensures below { BecameOrStayed result below.old below.new
+        (rows_painted (P.painted work.now.painter.now) work.now.left work.now.right (row + 1)
         below.old) }
-    ensures first_stays { OnErr result (first.new ≡ first.old) }
-    ensures below_stay { OnErr result (below.new ≡ below.old) }
     ensures tiles_rise { tiles.old ≤ tiles.new }
     ensures few_tiles { tiles.new
         ≤ tiles.old + (length below.old + 1) * (work.now.right - work.now.left) }
@@ -196,20 +201,19 @@ fn replace_row<P: TilePainter, T: Ledger>(
     requires rows { row + length below.old < 64 }
     requires some_tile { work.now.left < work.now.right }
     requires wide { All (λ row. work.now.right ≤ length row) below.old }
-    ensures first { OnOk result (first.new ≡ replicate work.now.right (tile_of p)) }
-    ensures below { OnOk result (below.new
-        ≡ rows_painted (P.painted work.now.painter.now) work.now.left work.now.right (row + 1)
+    ensures first { BecameOrStayed result first.old first.new
+        (replicate work.now.right (tile_of p)) }
+    ensures below { BecameOrStayed result below.old below.new
+        (rows_painted (P.painted work.now.painter.now) work.now.left work.now.right (row + 1)
         below.old) }
-    ensures first_stays { OnErr result (first.new ≡ first.old) }
-    ensures below_stay { OnErr result (below.new ≡ below.old) }
     ensures tiles_rise { tiles.old ≤ tiles.new }
     ensures few_tiles { tiles.new
         ≤ tiles.old + (length below.old + 1) * (work.now.right - work.now.left) }
 {
     let plain = palette.row(p, work.right as usize, tiles)?;
-    paint_rows(work, row + 1, below, palette, tiles)?;
-    *first = plain;
-    Ok(())
+    let done = paint_rows(work, row + 1, below, palette, tiles);
+    put_if_ok(&done, first, plain);
+    done
 }
 
 // Makes the slots of a row its own, and paints its columns and those of the rows below.
@@ -225,20 +229,18 @@ fn paint_slots<P: TilePainter, T: Ledger>(
     requires rows { row + length below.old < 64 }
     requires first { work.now.right ≤ length first.old }
     requires wide { All (λ row. work.now.right ≤ length row) below.old }
-    ensures first { OnOk result (first.new
-        ≡ row_painted (P.painted work.now.painter.now) work.now.left work.now.right row first.old) }
-    ensures below { OnOk result (below.new
-        ≡ rows_painted (P.painted work.now.painter.now) work.now.left work.now.right (row + 1)
+    ensures first { BecameOrStayed result first.old first.new
+        (row_painted (P.painted work.now.painter.now) work.now.left work.now.right row first.old) }
+    ensures below { BecameOrStayed result below.old below.new
+        (rows_painted (P.painted work.now.painter.now) work.now.left work.now.right (row + 1)
         below.old) }
-    ensures first_stays { OnErr result (first.new ≡ first.old) }
-    ensures below_stay { OnErr result (below.new ≡ below.old) }
     ensures tiles_rise { tiles.old ≤ tiles.new }
     ensures few_tiles { tiles.new
         ≤ tiles.old + (length below.old + 1) * (work.now.right - work.now.left) }
 {
     own(work.alloc, &mut first.slots)?;
     match Arc::get_mut(&mut first.slots) {
-        None => Err(AllocError),
+        None => return Err(AllocError),
         Some(sole) => paint_columns(work, row, sole.as_mut_slice(), below, palette, tiles),
     }
 }
@@ -256,13 +258,11 @@ fn paint_columns<P: TilePainter, T: Ledger>(
     requires rows { row + length below.old < 64 }
     requires slots { work.now.right ≤ length slots.old }
     requires wide { All (λ row. work.now.right ≤ length row) below.old }
-    ensures slots { OnOk result (slots.new
-        ≡ row_painted (P.painted work.now.painter.now) work.now.left work.now.right row slots.old) }
-    ensures below { OnOk result (below.new
-        ≡ rows_painted (P.painted work.now.painter.now) work.now.left work.now.right (row + 1)
+    ensures slots { BecameOrStayed result slots.old slots.new
+        (row_painted (P.painted work.now.painter.now) work.now.left work.now.right row slots.old) }
+    ensures below { BecameOrStayed result below.old below.new
+        (rows_painted (P.painted work.now.painter.now) work.now.left work.now.right (row + 1)
         below.old) }
-    ensures slots_stay { OnErr result (slots.new ≡ slots.old) }
-    ensures below_stay { OnErr result (below.new ≡ below.old) }
     ensures tiles_rise { tiles.old ≤ tiles.new }
     ensures few_tiles { tiles.new
         ≤ tiles.old + (length below.old + 1) * (work.now.right - work.now.left) }
@@ -289,16 +289,13 @@ fn paint_first<P: TilePainter, T: Ledger>(
     requires cols { cell.col + length others.old < 64 }
     requires rows { cell.row + length below.old < 64 }
     requires wide { All (λ row. work.now.right ≤ length row) below.old }
-    ensures first { OnOk result (first.new
-        ≡ P.painted work.now.painter.now cell.col cell.row first.old) }
-    ensures others { OnOk result (others.new
-        ≡ cells_painted (P.painted work.now.painter.now) (cell.col + 1) cell.row others.old) }
-    ensures below { OnOk result (below.new
-        ≡ rows_painted (P.painted work.now.painter.now) work.now.left work.now.right (cell.row + 1)
+    ensures first { BecameOrStayed result first.old first.new
+        (P.painted work.now.painter.now cell.col cell.row first.old) }
+    ensures others { BecameOrStayed result others.old others.new
+        (cells_painted (P.painted work.now.painter.now) (cell.col + 1) cell.row others.old) }
+    ensures below { BecameOrStayed result below.old below.new
+        (rows_painted (P.painted work.now.painter.now) work.now.left work.now.right (cell.row + 1)
         below.old) }
-    ensures first_stays { OnErr result (first.new ≡ first.old) }
-    ensures others_stay { OnErr result (others.new ≡ others.old) }
-    ensures below_stay { OnErr result (below.new ≡ below.old) }
     ensures tiles_rise { tiles.old ≤ tiles.new }
     ensures few_tiles { tiles.new ≤ tiles.old + 1 + length others.old
         + length below.old * (work.now.right - work.now.left) }
@@ -312,9 +309,9 @@ fn paint_first<P: TilePainter, T: Ledger>(
         TileChange::Stays => paint_cells(work, next, others, below, palette, tiles),
         TileChange::Becomes(p) => {
             let slot = palette.slot(p, tiles)?;
-            paint_cells(work, next, others, below, palette, tiles)?;
-            *first = slot;
-            Ok(())
+            let done = paint_cells(work, next, others, below, palette, tiles);
+            put_if_ok(&done, first, slot);
+            done
         }
         TileChange::Unknown if others.is_empty() && below.is_empty() => {
             first.paint_pixels(cell.col, cell.row, work.painter, palette, tiles)
@@ -324,9 +321,9 @@ fn paint_first<P: TilePainter, T: Ledger>(
                 return paint_owned(work, cell, first, others, below, palette, tiles);
             }
             let slot = first.painted(cell.col, cell.row, work.painter, palette, tiles)?;
-            paint_cells(work, next, others, below, palette, tiles)?;
-            *first = slot;
-            Ok(())
+            let done = paint_cells(work, next, others, below, palette, tiles);
+            put_if_ok(&done, first, slot);
+            done
         }
     }
 }
@@ -346,22 +343,19 @@ fn paint_owned<P: TilePainter, T: Ledger>(
     requires cols { cell.col + length others.old < 64 }
     requires rows { cell.row + length below.old < 64 }
     requires wide { All (λ row. work.now.right ≤ length row) below.old }
-    ensures first { OnOk result (first.new
-        ≡ P.painted work.now.painter.now cell.col cell.row first.old) }
-    ensures others { OnOk result (others.new
-        ≡ cells_painted (P.painted work.now.painter.now) (cell.col + 1) cell.row others.old) }
-    ensures below { OnOk result (below.new
-        ≡ rows_painted (P.painted work.now.painter.now) work.now.left work.now.right (cell.row + 1)
+    ensures first { BecameOrStayed result first.old first.new
+        (P.painted work.now.painter.now cell.col cell.row first.old) }
+    ensures others { BecameOrStayed result others.old others.new
+        (cells_painted (P.painted work.now.painter.now) (cell.col + 1) cell.row others.old) }
+    ensures below { BecameOrStayed result below.old below.new
+        (rows_painted (P.painted work.now.painter.now) work.now.left work.now.right (cell.row + 1)
         below.old) }
-    ensures first_stays { OnErr result (first.new ≡ first.old) }
-    ensures others_stay { OnErr result (others.new ≡ others.old) }
-    ensures below_stay { OnErr result (below.new ≡ below.old) }
     ensures tiles_rise { tiles.old ≤ tiles.new }
     ensures few_tiles { tiles.new ≤ tiles.old + length others.old
         + length below.old * (work.now.right - work.now.left) }
 {
     match &mut first.tile {
-        None => Err(AllocError),
+        None => return Err(AllocError),
         Some(tile) => paint_held(work, cell, tile, others, below, palette, tiles),
     }
 }
@@ -381,16 +375,13 @@ fn paint_held<P: TilePainter, T: Ledger>(
     requires cols { cell.col + length others.old < 64 }
     requires rows { cell.row + length below.old < 64 }
     requires wide { All (λ row. work.now.right ≤ length row) below.old }
-    ensures tile { OnOk result (tile.new.value
-        ≡ P.painted work.now.painter.now cell.col cell.row tile.old.value) }
-    ensures others { OnOk result (others.new
-        ≡ cells_painted (P.painted work.now.painter.now) (cell.col + 1) cell.row others.old) }
-    ensures below { OnOk result (below.new
-        ≡ rows_painted (P.painted work.now.painter.now) work.now.left work.now.right (cell.row + 1)
+    ensures tile { BecameOrStayed result tile.old.value tile.new.value
+        (P.painted work.now.painter.now cell.col cell.row tile.old.value) }
+    ensures others { BecameOrStayed result others.old others.new
+        (cells_painted (P.painted work.now.painter.now) (cell.col + 1) cell.row others.old) }
+    ensures below { BecameOrStayed result below.old below.new
+        (rows_painted (P.painted work.now.painter.now) work.now.left work.now.right (cell.row + 1)
         below.old) }
-    ensures tile_stays { OnErr result (tile.new.value ≡ tile.old.value) }
-    ensures others_stay { OnErr result (others.new ≡ others.old) }
-    ensures below_stay { OnErr result (below.new ≡ below.old) }
     ensures tiles_rise { tiles.old ≤ tiles.new }
     ensures few_tiles { tiles.new ≤ tiles.old + length others.old
         + length below.old * (work.now.right - work.now.left) }
