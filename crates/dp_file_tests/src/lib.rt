@@ -1,4 +1,4 @@
-//! The tests of rows in a file, in a crate of their own: what stands on `sqlite` takes most memory.
+//! The tests of rows in a file, in a crate of their own, since their check takes memory.
 #![tactic(auto)]
 
 #[cfg(test)]

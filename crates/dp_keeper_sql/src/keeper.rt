@@ -16,8 +16,7 @@ pub struct SqlKeeper {
     read_faults: u64,
 }
 
-// It is written out, so that it is only called where a store is let go. A derived one would be
-// proved again there, and take the check over 3 GB.
+// It is written out, so that it is only called where a store is let go.
 impl Drop for SqlKeeper {
     fn drop(self) {
         let SqlKeeper {
