@@ -1,13 +1,11 @@
 -- What is made ready for an act.
 use Rattle.std.proofs.Common.{◌≡◌, ℕ, List, [], ◌∷◌, ◌++◌, ap, sym, ◌∙◌}
-use Rattle.std.proofs.Common.{subst, refl, arith, ◌+◌, ◌-◌, ◌<◌, ◌≤◌, None, Some, Bool, true, drop}
+use Rattle.std.proofs.Common.{subst, refl, arith, ◌+◌, ◌<◌, ◌≤◌, None, Some, true, drop}
 use Rattle.std.specs.List.{fold}
 use Rattle.dp_board.specs.Commands.{command_of}
-use Rattle.dp_board.specs.declared.join.Join.{Join}
-use Rattle.dp_board.specs.Laws.{depth_in}
-use Rattle.dp_board.specs.Strokes.{concerned, last_few}
-use Rattle.dp_board.specs.Table.{NextStrokes, oldest_in, joined_in, next_strokes, table_with}
-use Rattle.std.specs.Prelude.{if◌then◌else◌, is_some, unwrap_or}
+use Rattle.dp_board.specs.Strokes.{concerned}
+use Rattle.dp_board.specs.Table.{oldest_in, next_strokes, table_with}
+use Rattle.std.specs.Prelude.{if◌then◌else◌, is_some}
 use Rattle.dp_board.specs.declared.act.Act.{Act}
 use Rattle.dp_board.specs.declared.act.UserAct.{UserAct}
 use Rattle.dp_board.specs.declared.act.Change.{Change}
@@ -16,9 +14,9 @@ use Rattle.dp_board.specs.Moves.{is_draw}
 use Rattle.dp_board.specs.Counts.{CountsFew}
 use Rattle.dp_rollback.specs.Due.{due_commands, change_of, CountsDue}
 use Rattle.dp_rollback.specs.Rollback.{Rolled, Next, StandsFor, put_on, change_in, grown, needless}
-use Rattle.dp_rollback.specs.Rollback.{IsInOrder, PointSave}
+use Rattle.dp_rollback.specs.Rollback.{IsInOrder}
 use Rattle.dp_rollback.specs.Moves.{mark_in, due_in, IsKnown, IsNext, IsDrawnFor, next_here}
-use Rattle.dp_rollback.specs.Moves.{HasAdded, IsAhead, IsPutHere, kept_in, saves_after}
+use Rattle.dp_rollback.specs.Moves.{HasAdded, kept_in, saves_after}
 use Rattle.dp_rollback.specs.Laws.{Laws}
 use Rattle.dp_rollback.proofs.StandLemmas.{StandsFor-put_on, StandsFor-spare}
 use Rattle.dp_rollback.proofs.DueLemmas.{due_in-due, change-made}
@@ -133,62 +131,6 @@ put-here {B} {Op} draw old a new board table base kept saves =
     ∙ ap (λ x. record goal { base = x; kept = new.kept; saves = new.saves }) base
     ∙ ap (λ x. record goal { kept = x; saves = new.saves }) kept
     ∙ ap (λ x. record goal { saves = x }) saves
-
--- the board is drawn on, and the rest stays
-pub board-drawn : {B Op : Type 0} → (draw : B → Op → B) (was old new : Rolled B Op)
-    (ops : List Op) → was ≡ old → new ≡ record was { board = new.board }
-    → new.board ≡ fold draw was.board ops
-    → new ≡ record old { board = fold draw old.board ops }
-board-drawn {B} {Op} draw was old new ops same rest board =
-    rest ∙ ap (λ b. record was { board = b }) board
-    ∙ ap (λ (r : Rolled B Op). record r { board = fold draw r.board ops }) same
-
--- the same, of what is the same before
-pub drawn-then : {B Op : Type 0} → (draw : B → Op → B) (old mid new : Rolled B Op) (ops : List Op)
-    → mid ≡ old → new ≡ record mid { board = fold draw mid.board ops }
-    → new ≡ record old { board = fold draw old.board ops }
-drawn-then {B} {Op} draw old mid new ops same drawn =
-    drawn ∙ ap (λ (r : Rolled B Op). record r { board = fold draw r.board ops }) same
-
--- the board stays, too
-pub board-stays : {B Op : Type 0} → (was old new : Rolled B Op) → was ≡ old
-    → new ≡ record was { board = new.board } → new.board ≡ was.board → new ≡ old
-board-stays was old new same rest board = rest ∙ ap (λ b. record was { board = b }) board ∙ same
-
--- with what was got ahead, once the board is drawn on, it goes on to what the act makes of it
-pub put-ahead : {B Op : Type 0} → (draw : B → Op → B) (old mid new : Rolled B Op)
-    (a : UserAct Op) (join : Join) (drawn : Bool) (strokes : NextStrokes)
-    (save : List (PointSave B))
-    → mid ≡ record old { board = fold draw old.board (command_of a.act true) }
-    → IsAhead old.table a old.board strokes save → join ≡ joined_in old.table a
-    → drawn ≡ is_draw a.act
-    → IsPutHere mid (record { act = a; join = join; drawn = drawn }) strokes save new
-    → new ≡ record (put_on (next_here draw old a) old) { spare = new.spare }
-put-ahead {B} {Op} draw old mid new a join drawn strokes save at ahead joined draws put =
-    let place = oldest_in (table_with (next_strokes old.table a) old.table) in
-    let table = put.table
-    ∙ ap (λ s. table_with s mid.table) ahead.strokes_are
-    ∙ ap (λ (r : Rolled B Op). table_with (next_strokes old.table a) r.table) at in
-    put-here draw old a new
-    (put.board ∙ ap (λ (r : Rolled B Op). r.board) at)
-    table
-    (put.base
-    ∙ ap (λ t. mid.base + (oldest_in t - mid.base)) table
-    ∙ ap (λ (r : Rolled B Op). r.base + (place - r.base)) at)
-    (put.kept
-    ∙ ap (λ t. drop (oldest_in t - mid.base)
-    (mid.kept ++ (record { act = a; join = join; drawn = drawn }) ∷ [])) table
-    ∙ ap (λ (r : Rolled B Op). drop (place - r.base)
-    (r.kept ++ (record { act = a; join = join; drawn = drawn }) ∷ [])) at
-    ∙ ap (λ j. drop (place - old.base)
-    (old.kept ++ (record { act = a; join = j; drawn = drawn }) ∷ [])) joined
-    ∙ ap (λ d. drop (place - old.base)
-    (old.kept ++ (record { act = a; join = joined_in old.table a; drawn = d }) ∷ [])) draws)
-    (put.saves
-    ∙ ap (λ (r : Rolled B Op). last_few (unwrap_or (depth_in a.act) r.table.window.depth)
-    (r.saves ++ save)) at
-    ∙ ap (λ xs. last_few (unwrap_or (depth_in a.act) old.table.window.depth)
-    (old.saves ++ xs)) ahead.saved)
 
 -- an act that moves no group is known
 pub IsKnown-unmoved : {B Op : Type 0} → (r : Rolled B Op) (a : UserAct Op) → a.user < 256

@@ -1,5 +1,5 @@
 -- What is drawn for one more act.
-use Rattle.std.specs.Prelude.{◌≡◌, ℕ, ◌+◌, ◌-◌, ◌<◌, ◌≤◌, true, Option, Some, None}
+use Rattle.std.specs.Prelude.{◌≡◌, ℕ, ◌-◌, ◌<◌, ◌≤◌, true, Option, Some, None}
 use Rattle.std.specs.Prelude.{List, [], ◌∷◌, ◌++◌, drop, map, unwrap_or}
 use Rattle.std.specs.Option.{option_map, ForSome}
 use Rattle.std.specs.List.{fold, Contains}
@@ -11,8 +11,7 @@ use Rattle.dp_board.specs.Strokes.{concerned, last_few}
 use Rattle.dp_board.specs.Laws.{depth_in}
 use Rattle.dp_board.specs.Commands.{command_of}
 use Rattle.dp_board.specs.Moves.{is_redo, is_draw}
-use Rattle.dp_board.specs.Table.{Table, NextStrokes, moved_in, joined_in, next_strokes, oldest_in}
-use Rattle.dp_board.specs.Table.{table_with}
+use Rattle.dp_board.specs.Table.{Table, moved_in, joined_in, next_strokes, oldest_in, table_with}
 use Rattle.dp_rollback.specs.declared.kept.KeptAct.{KeptAct}
 use Rattle.dp_rollback.specs.declared.kept.Mark.{Mark}
 use Rattle.dp_rollback.specs.Kept.{marked, commands_among}
@@ -106,25 +105,6 @@ next_here draw r a = record {
   board = fold draw r.board (command_of a.act true);
   saves = saves_after r.table r.board a.act r.saves;
 }
-
--- the strokes after an act that comes on this board, and its savepoint, if it is a Point; the oldest
--- Point in reach comes no earlier then
-pub record IsAhead {B Op : Type 0} (table : Table) (a : UserAct Op) (board : B)
-    (strokes : NextStrokes) (save : List (PointSave B)) : Type 0 where
-  pub strokes_are : strokes ≡ next_strokes table a
-  pub later : oldest_in table ≤ oldest_in (table_with strokes table)
-  pub saved : save ≡ save_of table.position board a.act
-
--- an act was added to it, with the strokes after it and its savepoint, and the acts that no act may
--- need any more were let go
-pub record IsPutHere {B Op : Type 0} (old : Rolled B Op) (next : KeptAct Op)
-    (strokes : NextStrokes) (save : List (PointSave B)) (new : Rolled B Op) : Type 0 where
-  pub board : new.board ≡ old.board
-  pub table : new.table ≡ table_with strokes old.table
-  pub base : new.base ≡ old.base + (oldest_in new.table - old.base)
-  pub kept : new.kept ≡ drop (oldest_in new.table - old.base) (old.kept ++ next ∷ [])
-  pub saves : new.saves
-      ≡ last_few (unwrap_or (depth_in next.act.act) old.table.window.depth) (old.saves ++ save)
 
 -- it went on by an act, which did so to the board
 pub record HasAdded {B Op : Type 0} (draw : B → Op → B) (old : Rolled B Op) (a : UserAct Op)

@@ -4,12 +4,11 @@ ghost use Rattle.std.specs.Prelude.{◌≡◌, ℕ, ◌+◌, ◌-◌, ◌<◌, �
 ghost use Rattle.std.specs.Prelude.{◌∷◌, ◌++◌};
 ghost use Rattle.std.specs.Prelude.{true, length};
 ghost use Rattle.std.specs.Prelude.{IfOk, OnOk, OnErr, IfSome, None, if◌then◌else◌};
-ghost use Rattle.std.specs.List.{fold};
 ghost use Rattle.std.specs.Option.{ForSome, option_to_list};
 ghost use Rattle.dp_board.specs.declared.act.UserAct.{UserAct as UserActOf};
 ghost use Rattle.dp_board.specs.Replay.{replay};
 ghost use Rattle.dp_board.specs.declared.act.Change.TheVariants.{Drew, Nothing};
-ghost use Rattle.dp_board.specs.Table.{oldest_in, joined_in, next_strokes, table_with};
+ghost use Rattle.dp_board.specs.Table.{oldest_in};
 ghost use Rattle.dp_board.specs.Moves.{is_draw};
 ghost use Rattle.dp_board.specs.Strokes.{concerned, is_eligible};
 ghost use Rattle.dp_board.specs.Commands.{command_of};
@@ -18,7 +17,7 @@ ghost use Rattle.dp_rollback.specs.Kept.{commands_among};
 ghost use Rattle.dp_rollback.specs.Due.{CountsDue, change_of};
 ghost use Rattle.dp_rollback.specs.Rollback.{StandsFor, IsInOrder, FitsOn, put_on, change_in};
 ghost use Rattle.dp_rollback.specs.Moves.{mark_in, kept_from, due_in, save_of};
-ghost use Rattle.dp_rollback.specs.Moves.{HasAdded, IsAhead, IsPutHere};
+ghost use Rattle.dp_rollback.specs.Moves.{HasAdded};
 ghost use Rattle.dp_rollback.specs.Moves.{IsRedrawn, IsDrawnLast, IsMade, IsKnown, IsNext};
 
 use crate::kept::{KeptAct, Mark};
@@ -30,9 +29,7 @@ use crate::run::Run;
 use crate::saves::{
     Save, copy_saves, depth_after, forget, push_save, put_save, save_at, save_last, save_of,
 };
-use dp_board::{
-    Act, Board, Change, Join, NextStrokes, StrokeTable, UserAct, concerned, tables_follow,
-};
+use dp_board::{Act, Board, Change, StrokeTable, UserAct, concerned, tables_follow};
 use dp_steps::Steps;
 use std::alloc::{AllocError, Global};
 use std::marker::Model;
@@ -138,14 +135,6 @@ pub fn mark_of<Op>(table: &StrokeTable, act: &UserAct<Op>) -> Option<Mark>
         group,
         drawn: matches!(act.act, Act::Redo { .. }),
     })
-}
-
-/// What an act that moves no group takes of memory: the strokes after it, and its savepoint if it
-/// is a point.
-#[derive(Drop)]
-struct Ahead<B> {
-    strokes: NextStrokes,
-    save: Option<Save<B>>,
 }
 
 /// What is drawn for an act: the board and the savepoints.
@@ -283,145 +272,28 @@ impl<B: Board> Rollback<B> {
         ensures counts { CountsFew B.weight (command_of act.act true) draws.old draws.new tiles.old
             tiles.new }
     {
-        let join = self.join_of(&act);
+        let join = self.table.join_of(&act);
         let drawn = is_draw(&act.act);
+        let depth = depth_after(self.depth, &act.act);
         let next = KeptAct { act, join, drawn };
-        let ahead = self.draw_ahead(&next.act, draws, tiles)?;
-        self.put_here(next, ahead);
-        Ok(change_by_draw(drawn))
-    }
-
-    /// What an act that comes next joins.
-    fn join_of(&self, act: &UserAct<B::Op>) -> Join
-        ensures user { act.now.user < 256 }
-        ensures value { result ≡ joined_in self.now.table act.now }
-    {
-        self.table.join_of(act)
-    }
-
-    /// Draws the command of an act that moves no group, if it is one, after all memory was got.
-    #[inline(always)]
-    fn draw_ahead<D: Ledger, T: Ledger>(
-        &mut self,
-        act: &UserAct<B::Op>,
-        draws: &mut Steps<D>,
-        tiles: &mut Steps<T>,
-    ) -> Result<Ahead<B>, AllocError>
-        ensures known { concerned act.now < 256 }
-        ensures ahead { IfOk result (λ ahead. IsAhead self.old.table act.now self.old.board
-            ahead.strokes (option_to_list ahead.save)) }
-        ensures drawn { OnOk result (self.new ≡ record self.old {
-          board = fold B.drawn self.old.board (command_of act.now.act true);
-        }) }
-        ensures err { OnErr result (self.new ≡ self.old) }
-        ensures counts { CountsFew B.weight (command_of act.now.act true) draws.old draws.new
-            tiles.old tiles.new }
-    {
-        let ahead = self.ahead(act, draws, tiles)?;
-        match self.draw_command(&act.act, draws, tiles) {
-            Ok(()) => Ok(ahead),
-            Err(error) => {
-                drop(ahead);
-                Err(error)
-            }
-        }
-    }
-
-    /// What an act that moves no group takes of memory.
-    #[inline(always)]
-    fn ahead<D: Ledger, T: Ledger>(
-        &mut self,
-        act: &UserAct<B::Op>,
-        draws: &mut Steps<D>,
-        tiles: &mut Steps<T>,
-    ) -> Result<Ahead<B>, AllocError>
-        ensures same { self.new ≡ self.old }
-        ensures known { concerned act.now < 256 }
-        ensures ahead { IfOk result (λ ahead. IsAhead self.old.table act.now self.old.board
-            ahead.strokes (option_to_list ahead.save)) }
-        ensures no_draw { draws.new ≡ draws.old }
-        ensures no_tile { tiles.new ≡ tiles.old }
-    {
-        let strokes = self.strokes(act)?;
-        match self.save_now(&act.act, draws, tiles) {
-            Ok(save) => Ok(Ahead { strokes, save }),
-            Err(error) => {
-                drop(strokes);
-                Err(error)
-            }
-        }
-    }
-
-    /// The strokes after an act that comes next.
-    #[inline(always)]
-    fn strokes(&self, act: &UserAct<B::Op>) -> Result<NextStrokes, AllocError>
-        ensures known { concerned act.now < 256 }
-        ensures value { IfOk result (λ next. next ≡ next_strokes self.now.table act.now) }
-        ensures later { IfOk result (λ next. oldest_in self.now.table
-            ≤ oldest_in (table_with next self.now.table)) }
-    {
-        self.table.next(self.alloc, act)
-    }
-
-    /// The savepoint of an act that comes next, if it is a point. The board was saved as that last.
-    #[inline(always)]
-    fn save_now<D: Ledger, T: Ledger>(
-        &mut self,
-        act: &Act<B::Op>,
-        draws: &mut Steps<D>,
-        tiles: &mut Steps<T>,
-    ) -> Result<Option<Save<B>>, AllocError>
-        ensures same { self.new ≡ self.old }
-        ensures saved { IfOk result (λ save. option_to_list save
-            ≡ save_of self.old.table.position self.old.board act.now) }
-        ensures no_draw { draws.new ≡ draws.old }
-        ensures no_tile { tiles.new ≡ tiles.old }
-    {
-        save_last(
+        let strokes = self.table.next(self.alloc, &next.act)?;
+        let save = save_last(
             self.alloc,
             self.table.position(),
             &self.board,
             &mut self.last,
-            act,
+            &next.act.act,
             draws,
             tiles,
-        )
-    }
-
-    /// Draws the command of an act that comes next, if it is one.
-    #[inline(always)]
-    fn draw_command<D: Ledger, T: Ledger>(
-        &mut self,
-        act: &Act<B::Op>,
-        draws: &mut Steps<D>,
-        tiles: &mut Steps<T>,
-    ) -> Result<(), AllocError>
-        ensures drawn { OnOk result (self.new ≡ record self.old {
-          board = fold B.drawn self.old.board (command_of act.now true);
-        }) }
-        ensures err { OnErr result (self.new ≡ self.old) }
-        ensures counts { CountsFew B.weight (command_of act.now true) draws.old draws.new tiles.old
-            tiles.new }
-    {
-        draw_next(&mut self.board, &mut self.last, act, draws, tiles)
-    }
-
-    /// Adds an act that moves no group, whose command was drawn. It takes no memory.
-    #[inline(always)]
-    fn put_here(&mut self, next: KeptAct<B::Op>, ahead: Ahead<B>)
-        requires room { 1 ≤ self.old.spare }
-        requires ahead { (board : B) × IsAhead self.old.table next.act board ahead.strokes
-            (option_to_list ahead.save) }
-        ensures { IsPutHere self.old next ahead.strokes (option_to_list ahead.save) self.new }
-    {
-        let Ahead { strokes, save } = ahead;
-        let depth = depth_after(self.depth, &next.act.act);
+        )?;
+        draw_next(&mut self.board, &mut self.last, &next.act.act, draws, tiles)?;
         self.depth = depth;
         put_save(&mut self.saves, save, depth);
         self.table.put(strokes);
         self.kept.push_reserved(next);
         let first = self.table.oldest();
         let_go(&mut self.base, &mut self.kept, first);
+        Ok(change_by_draw(drawn))
     }
 
     /// What an act that comes next makes of the board, with all memory that it takes. The board

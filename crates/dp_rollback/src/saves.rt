@@ -1,6 +1,6 @@
 //! Savepoints of the points in reach.
 
-ghost use Rattle.std.specs.Prelude.{◌≡◌, ◌∷◌, ◌++◌, [], ◌<◌, IfOk, OnOk, OnErr, IfSome, unwrap_or};
+ghost use Rattle.std.specs.Prelude.{◌≡◌, ◌++◌, ◌<◌, IfOk, OnOk, OnErr, IfSome, unwrap_or};
 ghost use Rattle.std.specs.Prelude.{is_some, None};
 ghost use Rattle.std.specs.Option.{ForSome, option_to_list};
 ghost use Rattle.std.specs.Vec.{vec_len, vec_capacity};
@@ -49,19 +49,12 @@ pub(crate) fn copy_saves<B: Drop>(
 {
     let mut copies = Vec::with_capacity(alloc, saves.len())?;
     for save in saves {
-        push_copy(&mut copies, save)?;
+        copies.push(Save {
+            point: save.point,
+            board: save.board.clone()?,
+        })?;
     }
     Ok(copies)
-}
-
-/// Adds a copy of a savepoint.
-fn push_copy<B: Drop>(copies: &mut Vec<Save<B>>, save: &Save<B>) -> Result<(), AllocError>
-    ensures { OnOk result (copies.new.items ≡ copies.old.items ++ save.now ∷ []) }
-{
-    let board = save.board.clone()?;
-    let point = save.point;
-    copies.push(Save { point, board })?;
-    Ok(())
 }
 
 /// A board as it is now: what it was saved as last, if it has not changed since.
