@@ -1,6 +1,6 @@
 -- What is made ready for an act.
 use Rattle.std.proofs.Common.{◌≡◌, ℕ, List, [], ◌∷◌, ◌++◌, ap, sym, ◌∙◌}
-use Rattle.std.proofs.Common.{subst, refl, ◌+◌, ◌<◌, ◌≤◌, None, Some, true, drop}
+use Rattle.std.proofs.Common.{subst, refl, arith, ◌+◌, ◌<◌, ◌≤◌, None, Some, true, drop}
 use Rattle.std.specs.List.{fold}
 use Rattle.dp_board.specs.Commands.{command_of}
 use Rattle.dp_board.specs.Strokes.{concerned}
@@ -21,10 +21,6 @@ use Rattle.dp_rollback.specs.Laws.{Laws}
 use Rattle.dp_rollback.proofs.StandLemmas.{StandsFor-put_on, StandsFor-spare}
 use Rattle.dp_rollback.proofs.DueLemmas.{due_in-due, change-made}
 
--- an act of a sender
-abbrev pub act_by : {Op : Type 0} → ℕ → Act Op → UserAct Op
-act_by user act = record { user = user; act = act }
-
 -- it stands for the same acts then
 pub stands-now : {B Op : Type 0} → (draw : B → Op → B) (old now : Rolled B Op)
     → now ≡ record old { spare = now.spare } → (blank : B) (depth : ℕ) (acts : List (UserAct Op))
@@ -35,49 +31,64 @@ stands-now draw old now same blank depth acts st =
 
 -- what was made ready stands for the acts with the act added
 pub ready-stands : {B Op : Type 0} → Laws Op → (draw : B → Op → B) (old now : Rolled B Op)
-    (user : ℕ) (copy act : Act Op) → now ≡ record old { spare = now.spare } → copy ≡ act
-    → IsKnown now (act_by user copy) → (next : Next B Op)
-    → IsNext draw now (act_by user copy) next → (blank : B) (depth : ℕ) (acts : List (UserAct Op))
-    → StandsFor draw blank depth acts old
-    → StandsFor draw blank depth (acts ++ act_by user act ∷ []) (put_on next now)
-ready-stands laws draw old now user copy act same copied known next made blank depth acts st =
-    subst (λ b. StandsFor draw blank depth (acts ++ act_by user b ∷ []) (put_on next now))
-    copied
-    (StandsFor-put_on laws draw now (act_by user copy) next known made blank depth acts
+    (a b : UserAct Op) → now ≡ record old { spare = now.spare } → a ≡ b → IsKnown now a
+    → (next : Next B Op) → IsNext draw now a next
+    → (blank : B) (depth : ℕ) (acts : List (UserAct Op)) → StandsFor draw blank depth acts old
+    → StandsFor draw blank depth (acts ++ b ∷ []) (put_on next now)
+ready-stands laws draw old now a b same equal known next made blank depth acts st =
+    subst (λ x. StandsFor draw blank depth (acts ++ x ∷ []) (put_on next now)) equal
+    (StandsFor-put_on laws draw now a next known made blank depth acts
     (stands-now draw old now same blank depth acts st))
 
 -- it tells the change
 pub ready-change : {B Op : Type 0} → Laws Op → (draw : B → Op → B) (old now : Rolled B Op)
-    (user : ℕ) (copy act : Act Op) → now ≡ record old { spare = now.spare } → copy ≡ act
-    → IsKnown now (act_by user copy) → (next : Next B Op)
-    → IsNext draw now (act_by user copy) next → (blank : B) (depth : ℕ) (acts : List (UserAct Op))
-    → StandsFor draw blank depth acts old
-    → change_in next ≡ change_of depth acts (act_by user act)
-ready-change laws draw old now user copy act same copied known next made blank depth acts st =
+    (a b : UserAct Op) → now ≡ record old { spare = now.spare } → a ≡ b → IsKnown now a
+    → (next : Next B Op) → IsNext draw now a next
+    → (blank : B) (depth : ℕ) (acts : List (UserAct Op)) → StandsFor draw blank depth acts old
+    → change_in next ≡ change_of depth acts b
+ready-change laws draw old now a b same equal known next made blank depth acts st =
     ap (λ k. if k.drawn then Drew else (if is_some next.mark then Rebuilt else Nothing)) made.act
-    ∙ ap (λ m. if is_draw copy then Drew else (if is_some m then Rebuilt else Nothing)) made.mark
-    ∙ change-made laws draw (act_by user copy) now known.known blank depth acts
+    ∙ ap (λ m. if is_draw a.act then Drew else (if is_some m then Rebuilt else Nothing)) made.mark
+    ∙ change-made laws draw a now known.known blank depth acts
     (stands-now draw old now same blank depth acts st)
-    ∙ ap (λ b. change_of depth acts (act_by user b)) copied
+    ∙ ap (change_of depth acts) equal
 
 -- what was drawn for it is due
 pub counts-due : {B Op : Type 0} → Laws Op → (draw : B → Op → B) (weight : Op → ℕ)
-    (old now : Rolled B Op) (user : ℕ) (copy act : Act Op) (draws draws' tiles tiles' : ℕ)
-    → now ≡ record old { spare = now.spare } → copy ≡ act → IsKnown now (act_by user copy)
-    → CountsFew weight (due_in now copy (mark_in now.table (act_by user copy))) draws draws' tiles
-    tiles'
-    → CountsDue draw weight old (act_by user act) draws draws' tiles tiles'
-counts-due laws draw weight old now user copy act draws draws' tiles tiles' same copied known
-    counts =
+    (old now : Rolled B Op) (a b : UserAct Op) (draws draws' tiles tiles' : ℕ)
+    → now ≡ record old { spare = now.spare } → a ≡ b → IsKnown now a
+    → CountsFew weight (due_in now a.act (mark_in now.table a)) draws draws' tiles tiles'
+    → CountsDue draw weight old b draws draws' tiles tiles'
+counts-due laws draw weight old now a b draws draws' tiles tiles' same equal known counts =
     record {
       draws_rise = counts.draws_rise;
       tiles_rise = counts.tiles_rise;
       due = λ blank depth acts st.
           subst (λ ops. CountsFew weight ops draws draws' tiles tiles')
-          (due_in-due laws draw (act_by user copy) now known.known known.order.begins known.reach
-          blank depth acts (stands-now draw old now same blank depth acts st)
-          ∙ ap (λ b. due_commands depth acts (act_by user b)) copied) counts;
+          (due_in-due laws draw a now known.known known.order.begins known.reach blank depth acts
+          (stands-now draw old now same blank depth acts st)
+          ∙ ap (due_commands depth acts) equal) counts;
     }
+
+-- if nothing was drawn, no more was than is due
+pub none-due : {B Op : Type 0} → (draw : B → Op → B) (weight : Op → ℕ) (r : Rolled B Op)
+    (a : UserAct Op) (draws tiles : ℕ) → CountsDue draw weight r a draws draws tiles tiles
+none-due draw weight r a draws tiles = record {
+  draws_rise = omega arith;
+  tiles_rise = omega arith;
+  due = λ blank depth acts st. record {
+    draws_rise = omega arith;
+    few_draws = omega arith;
+    tiles_rise = omega arith;
+    few_tiles = omega arith;
+  };
+}
+
+-- after a call that was refused it is as it was, but for its room
+pub still-same : {B Op : Type 0} → (old now new : Rolled B Op)
+    → now ≡ record old { spare = now.spare } → new ≡ now → new ≡ record old { spare = new.spare }
+still-same {B} {Op} old now new same is =
+    is ∙ same ∙ ap (λ (r : Rolled B Op). record old { spare = r.spare }) (sym is)
 
 -- what an act makes of it that moves no group
 pub IsNext-here : {B Op : Type 0} → (draw : B → Op → B) (r : Rolled B Op) (a : UserAct Op)
@@ -134,28 +145,22 @@ IsKnown-unmoved r a sender known order none = record {
 
 -- what went on by an act stands for the acts with it
 pub added-stands : {B Op : Type 0} → Laws Op → (draw : B → Op → B) (old now new : Rolled B Op)
-    (user : ℕ) (copy act : Act Op) (change : Change) → now ≡ record old { spare = now.spare }
-    → copy ≡ act → IsKnown now (act_by user copy)
-    → HasAdded draw now (act_by user copy) change new
+    (a b : UserAct Op) (change : Change) → now ≡ record old { spare = now.spare } → a ≡ b
+    → IsKnown now a → HasAdded draw now a change new
     → (blank : B) (depth : ℕ) (acts : List (UserAct Op)) → StandsFor draw blank depth acts old
-    → StandsFor draw blank depth (acts ++ act_by user act ∷ []) new
-added-stands laws draw old now new user copy act change same copied known added blank depth acts
-    st =
-    let later = acts ++ act_by user act ∷ [] in
+    → StandsFor draw blank depth (acts ++ b ∷ []) new
+added-stands laws draw old now new a b change same equal known added blank depth acts st =
+    let later = acts ++ b ∷ [] in
     subst (StandsFor draw blank depth later) (sym added.same)
     (StandsFor-spare draw blank depth later (put_on added.next now) new.spare
-    (ready-stands laws draw old now user copy act same copied known added.next added.made blank
-    depth acts st))
+    (ready-stands laws draw old now a b same equal known added.next added.made blank depth acts st))
 
 -- the change is that of the act
 pub added-change : {B Op : Type 0} → Laws Op → (draw : B → Op → B) (old now new : Rolled B Op)
-    (user : ℕ) (copy act : Act Op) (change : Change) → now ≡ record old { spare = now.spare }
-    → copy ≡ act → IsKnown now (act_by user copy)
-    → HasAdded draw now (act_by user copy) change new
+    (a b : UserAct Op) (change : Change) → now ≡ record old { spare = now.spare } → a ≡ b
+    → IsKnown now a → HasAdded draw now a change new
     → (blank : B) (depth : ℕ) (acts : List (UserAct Op)) → StandsFor draw blank depth acts old
-    → change ≡ change_of depth acts (act_by user act)
-added-change laws draw old now new user copy act change same copied known added blank depth acts
-    st =
+    → change ≡ change_of depth acts b
+added-change laws draw old now new a b change same equal known added blank depth acts st =
     added.tells
-    ∙ ready-change laws draw old now user copy act same copied known added.next added.made blank
-    depth acts st
+    ∙ ready-change laws draw old now a b same equal known added.next added.made blank depth acts st

@@ -139,9 +139,13 @@ CountsFew-none weight ops draws draws' tiles tiles' same same_tiles = record {
   few_tiles = omega (arith, same_tiles);
 }
 
+-- where there is no value there isn't this one
+pub no-some : {A : Type 0} (x : A) → None ≡ Some x → ⊥
+no-some x some = cc
+
 -- what holds of a value if there is one
 pub for-some : {A : Type 0} → (o : Option A) (P : A → Type 0) → IfSome o P → ForSome o P
-for-some None P holds = λ x some. let wrong : None ≡ Some x = some in cc
+for-some None P holds = λ x some. absurd (no-some x some)
 for-some (Some y) P holds = λ x some. let same : y ≡ x = cc in subst P same holds
 
 -- what is drawn of all, if a part of them and then the rest were

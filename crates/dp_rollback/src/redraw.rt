@@ -8,6 +8,7 @@ ghost use Rattle.dp_board.specs.Counts.{CountsFew};
 ghost use Rattle.dp_rollback.specs.Kept.{marked, drawn_among, commands_among};
 
 use crate::kept::{KeptAct, Mark};
+use crate::saves::forget;
 use dp_board::{Act, Board};
 use dp_steps::Steps;
 use std::alloc::AllocError;
@@ -60,7 +61,7 @@ pub(crate) fn draw_next<B: Board, D: Ledger, T: Ledger>(
     match act {
         Act::Draw(op) => {
             board.draw(op, draws, tiles)?;
-            *last = None;
+            forget(last);
             Ok(())
         }
         _ => Ok(()),

@@ -27,7 +27,7 @@ use crate::redraw::{draw_act, draw_next};
 use crate::room::{add_act, let_go};
 use crate::run::Run;
 use crate::saves::{
-    Save, copy_saves, depth_after, push_save, put_save, save_at, save_last, save_of,
+    Save, copy_saves, depth_after, forget, push_save, put_save, save_at, save_last, save_of,
 };
 use dp_board::{Act, Board, Change, StrokeTable, UserAct, concerned, tables_follow};
 use dp_steps::Steps;
@@ -39,7 +39,6 @@ use std::sync::ledger::Ledger;
 /// A board, drawn on act by act, that can go back: it holds the acts that an undo or a redo may
 /// still need, with a savepoint for each point in reach. While nothing is drawn after a point, its
 /// savepoint is at hand as the last one, for the next point.
-#[derive(Drop)]
 pub struct Rollback<B: Board> {
     board: B,
     table: StrokeTable,
@@ -49,6 +48,27 @@ pub struct Rollback<B: Board> {
     last: Option<Arc<B>>,
     saves: Vec<Save<B>>,
     alloc: Global,
+}
+
+// It is written out, so that it is only called where a board is let go.
+impl<B: Board> Drop for Rollback<B> {
+    fn drop(self) {
+        let Rollback {
+            board,
+            table,
+            depth: _,
+            base: _,
+            kept,
+            last,
+            saves,
+            alloc: _,
+        } = self;
+        drop(board);
+        drop(table);
+        drop(kept);
+        drop(last);
+        drop(saves);
+    }
 }
 
 impl<B: Board> Model for Rollback<B> {
@@ -199,13 +219,9 @@ impl<B: Board> Rollback<B> {
         ensures counts { CountsDue B.drawn B.weight self.old
             (record { user = user; act = act.now }) draws.old draws.new tiles.old tiles.new }
     {
+        let next = self.admit(user, act)?;
         stroke_laws::<B::Op>();
-        self.make_room()?;
-        let act = UserAct {
-            user,
-            act: copy_act::<B>(self.alloc, act)?,
-        };
-        self.add(act, draws, tiles)
+        self.add(next, draws, tiles)
     }
 
     /// Adds an act, for which there is room.
@@ -308,13 +324,9 @@ impl<B: Board> Rollback<B> {
         ensures counts { CountsDue B.drawn B.weight self.old
             (record { user = user; act = act.now }) draws.old draws.new tiles.old tiles.new }
     {
+        let next = self.admit(user, act)?;
         stroke_laws::<B::Op>();
-        self.make_room()?;
-        let act = UserAct {
-            user,
-            act: copy_act::<B>(self.alloc, act)?,
-        };
-        self.made(act, draws, tiles)
+        self.made(next, draws, tiles)
     }
 
     /// What an act makes of the board.
@@ -344,6 +356,20 @@ impl<B: Board> Rollback<B> {
             board,
             saves,
         })
+    }
+
+    /// Makes room for one more act, and an equal one. The board stands for the same acts.
+    fn admit(&mut self, user: u8, act: &Act<B::Op>) -> Result<UserAct<B::Op>, AllocError>
+        ensures same { self.new ≡ record self.old { spare = self.new.spare } }
+        ensures room { OnOk result (1 ≤ self.new.spare) }
+        ensures act { IfOk result (λ next. next ≡ record { user = user; act = act.now }) }
+        ensures still { (blank : B) (depth : ℕ) (acts : List (UserActOf B.Op))
+            → StandsFor B.drawn blank depth acts self.old
+            → StandsFor B.drawn blank depth acts self.new }
+    {
+        self.make_room()?;
+        let act = copy_act::<B>(self.alloc, act)?;
+        Ok(UserAct { user, act })
     }
 
     /// Makes room for one more act. The board stands for the same acts.
@@ -493,7 +519,7 @@ impl<B: Board> Rollback<B> {
         self.table.put(strokes);
         self.depth = depth;
         self.board = board;
-        self.last = None;
+        forget(&mut self.last);
         self.saves = saves;
         let first = self.table.oldest();
         let_go(&mut self.base, &mut self.kept, first);

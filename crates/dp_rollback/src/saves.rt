@@ -1,7 +1,7 @@
 //! Savepoints of the points in reach.
 
 ghost use Rattle.std.specs.Prelude.{◌≡◌, ◌++◌, ◌<◌, IfOk, OnOk, OnErr, IfSome, unwrap_or};
-ghost use Rattle.std.specs.Prelude.{is_some};
+ghost use Rattle.std.specs.Prelude.{is_some, None};
 ghost use Rattle.std.specs.Option.{ForSome, option_to_list};
 ghost use Rattle.std.specs.Vec.{vec_len, vec_capacity};
 ghost use Rattle.std.specs.List.{Contains};
@@ -19,10 +19,17 @@ use std::sync::Arc;
 use std::sync::ledger::Ledger;
 
 /// The savepoint of a point: the board at it. Points with no draw between them share one board.
-#[derive(Drop)]
 pub(crate) struct Save<B> {
     pub point: usize,
     pub board: Arc<B>,
+}
+
+// It is written out, so that it is only called where a savepoint is let go.
+impl<B: Drop> Drop for Save<B> {
+    fn drop(self) {
+        let Save { point: _, board } = self;
+        drop(board);
+    }
 }
 
 impl<B> Model for Save<B> {
@@ -67,6 +74,13 @@ fn save_board<B: Board, D: Ledger, T: Ledger>(
         Some(save) => save.clone(),
         None => Ok(Arc::new(alloc, board.share(draws, tiles)?)?),
     }
+}
+
+/// Forgets the board that was saved last.
+pub(crate) fn forget<B: Drop>(last: &mut Option<Arc<B>>)
+    ensures { last.new ≡ None }
+{
+    *last = None;
 }
 
 /// The savepoint of an act that comes next, if it is a point.

@@ -94,7 +94,9 @@ pub(crate) fn serve(session: &mut Session<SureKeeper>, event: Event) -> Result<R
     ensures ok { OnOk result (session.new ≡ sure_step session.old event) }
     ensures first_fault { OnOk result (session.new.first_fault ≡ None) }
 {
-    session.step_surely(&event)
+    let reply = session.step_surely(&event);
+    drop(event);
+    reply
 }
 
 /// The commands join an uplink, each as a part of a reset.
@@ -283,7 +285,9 @@ impl<B: ClientBoard> Participant<B> {
         clients_show::<B>();
         let commands = snapshot(alloc, self.client.confirmed())?;
         let begin = reset_begin(keeps, self.client.taken().len() as u32);
-        self.send_reset(begin, commands.as_slice())
+        let line = self.send_reset(begin, commands.as_slice());
+        drop(commands);
+        line
     }
 
     /// A reset to these commands joins the uplink, which begins by this message.

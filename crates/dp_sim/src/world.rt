@@ -81,8 +81,9 @@ impl<B: ClientBoard> World<B> {
                 epoch,
                 at,
             } => {
+                self.participants.reserve(1)?;
                 let participant = Participant::new(self.alloc, conn, user, epoch, at)?;
-                self.participants.push(participant)?;
+                self.participants.push_reserved(participant);
                 ReportLine::Joined {
                     client: conn,
                     user,

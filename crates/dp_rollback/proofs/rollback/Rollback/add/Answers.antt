@@ -20,3 +20,11 @@ pub settle-requires : goal.settle-requires
 settle-requires g c =
     FitsOn-made g.B.Board.drawn c.args.self.now c.args.act c.in_ok-ready.ready c.made.ensures.known
     c.in_ok-ready.ensures.next c.requires.room
+
+pub returns-clause-added : goal.returns-clause-added
+returns-clause-added g c = record {
+  next = c.in_ok-ready.ready;
+  made = c.in_ok-ready.ensures.next;
+  same = c.settle.ensures;
+  tells = c.change-change.ensures;
+}

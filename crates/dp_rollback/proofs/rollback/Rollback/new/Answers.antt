@@ -1,8 +1,9 @@
 use Rattle.std.proofs.Common.{[], ap, ◌∙◌, arith, refl, min, ◌≡◌, ◌<◌, sym, subst}
-use Rattle.std.proofs.Common.{length, None, Some}
+use Rattle.std.proofs.Common.{length}
 use Rattle.std.specs.List.{fold, All}
 use Rattle.std.proofs.lemmas.List.Elements.{All-nil}
 use Rattle.dp_rollback.specs.Rollback.{points_of}
+use Rattle.dp_rollback.proofs.RunLemmas.{no-some}
 use Rattle.dp_rollback.proofs.StandLemmas.{StandsFor-new}
 use Rattle.dp_rollback.proofs.rollback.Rollback.new.Goals as goal
 
@@ -15,7 +16,7 @@ invariant_of-result g c =
     let oldest : fold min table.position table.window.points ≡ table.position =
     ap (fold min table.position) points in (
       sym (ap (λ s. s.window.depth) none),
-      λ save some. let wrong : None ≡ Some save = some in cc,
+      λ save some. absurd (no-some save some),
       record {
         up_to_end = omega (arith, start, c.new-2.ensures.len);
         begins = omega (arith, start, oldest);

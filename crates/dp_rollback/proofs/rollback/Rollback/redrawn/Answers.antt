@@ -1,6 +1,7 @@
 use Rattle.std.proofs.Common.{◌≡◌, ℕ, ◌-◌, ◌<◌, ◌≤◌, ◌∙◌, ap, drop, refl, subst, sym, true, false}
 use Rattle.std.proofs.Common.{arith, length}
 use Rattle.std.specs.Prelude.{is_some}
+use Rattle.std.proofs.lemmas.Bool.{false≢true}
 use Rattle.std.specs.List.{Contains}
 use Rattle.std.specs.List.Sorted.{IsNonDecreasing}
 use Rattle.std.specs.Vec.{vec_len}
@@ -114,4 +115,4 @@ unreachable-requires g c =
     ∙ ap (λ xs. is_among xs group) c.self.invariant.2.saved.same
     ∙ ap (λ o. is_among o.table.window.points group) c.self.view_is
     ∙ c.requires.among in
-    cc
+    absurd (false≢true wrong)
