@@ -36,6 +36,9 @@
 //! if one gave something else than is due.
 #![tactic(auto)]
 
+mod running;
+
+use crate::running::Program;
 use dp_io::{StdSink, put_all};
 use dp_row_runs::run;
 use std::io::read_to_string;
@@ -45,7 +48,7 @@ fn main(rt: HostRuntime) -> ExitCode {
     let alloc = rt.alloc();
     let mut out = Vec::new(alloc);
     let status = match read_to_string(alloc, rt.stdin()) {
-        Ok(text) => run(&rt, alloc, text.as_str(), &mut out),
+        Ok(text) => run(&Program { rt: &rt }, alloc, text.as_str(), &mut out),
         Err(_) => 2,
     };
     match put_all(&mut StdSink::new(rt.stdout()), &out) {
