@@ -4,5 +4,4 @@
 mod running;
 
 pub use dp_commands::{Host, Resources};
-pub use dp_serve::Reports;
 pub use running::{Left, outcome_of, outcome_over, words_of};

@@ -1,8 +1,9 @@
 //! The program, as rows run it.
 
-use dp_app_runs::{Host, Left, Reports, Resources, outcome_over};
+use dp_app_runs::{Host, Left, Resources, outcome_over};
 use dp_row_runs::{RowLeft, RowRun, RowStreams, RunsRow};
 use dp_row_wires::{Told, put_told};
+use dp_serve::Reports;
 use std::alloc::{AllocError, Global};
 use std::sync::Wait;
 use std::thread::Threads;
