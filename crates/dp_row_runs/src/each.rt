@@ -35,7 +35,9 @@ pub fn put_each<P: RunsRow>(
     alloc: Global,
     each: Each<'_>,
     out: &mut Vec<u8>,
-) -> Result<(), AllocError> {
+) -> Result<(), AllocError>
+    requires { P.ready program.now }
+{
     let first = answer_to(program, alloc, each.tried(1), &each.row.wires)?;
     put_calls(program, alloc, each, &first, out)
 }
@@ -47,7 +49,9 @@ fn put_calls<P: RunsRow>(
     each: Each<'_>,
     first: &Answer,
     out: &mut Vec<u8>,
-) -> Result<(), AllocError> {
+) -> Result<(), AllocError>
+    requires { P.ready program.now }
+{
     let mut made = 0;
     for call in 1..1_000_000u64 {
         if !put_call(program, alloc, each, call, first, out)? {
@@ -73,7 +77,9 @@ fn put_call<P: RunsRow>(
     call: u64,
     first: &Answer,
     out: &mut Vec<u8>,
-) -> Result<bool, AllocError> {
+) -> Result<bool, AllocError>
+    requires { P.ready program.now }
+{
     let answer = answer_to(program, alloc, each.tried(call), &each.row.wires)?;
     let is_made = !answer.same(each.whole);
     let is_due = answer.status == first.status

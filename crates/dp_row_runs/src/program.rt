@@ -37,13 +37,17 @@ pub trait RunsRow {
     /// The reports of a server's links.
     type Reports: Drop;
 
-    /// Runs the program.
+    /// Whether it may run.
+    ghost ready: { Self → Type 0 };
+
+    /// Runs the program on these words, over these streams, wires and this store.
     fn run(
         &self,
         alloc: Global,
         run: RowRun<'_>,
         streams: &mut RowStreams<'_>,
-    ) -> RowLeft<Self::Reports>;
+    ) -> RowLeft<Self::Reports>
+        requires { ready self.now };
 
     /// Adds a line for each report.
     fn put_reports(

@@ -10,7 +10,9 @@ use dp_row_texts::{
 use std::alloc::{AllocError, Global};
 
 /// Runs the rows of a text, and answers the program's status.
-pub fn run<P: RunsRow>(program: &P, alloc: Global, text: &str, out: &mut Vec<u8>) -> u8 {
+pub fn run<P: RunsRow>(program: &P, alloc: Global, text: &str, out: &mut Vec<u8>) -> u8
+    requires { P.ready program.now }
+{
     let done = match read_rows(alloc, text) {
         Ok(Rows::Read(rows)) => put_rows(program, alloc, &rows, out).map(|()| 0),
         Ok(Rows::Bad(line)) => put_bad_row(line, out).map(|()| 2),
@@ -25,7 +27,9 @@ fn put_rows<P: RunsRow>(
     alloc: Global,
     rows: &[Row],
     out: &mut Vec<u8>,
-) -> Result<(), AllocError> {
+) -> Result<(), AllocError>
+    requires { P.ready program.now }
+{
     for row in rows {
         put_row(program, alloc, row, out)?;
     }
@@ -38,7 +42,9 @@ fn put_row<P: RunsRow>(
     alloc: Global,
     row: &Row,
     out: &mut Vec<u8>,
-) -> Result<(), AllocError> {
+) -> Result<(), AllocError>
+    requires { P.ready program.now }
+{
     let piece = row.pieces.first().copied().unwrap_or(1);
     let more = None;
     let answer = answer_to(program, alloc, Tried { row, piece, more }, &row.wires)?;
@@ -55,7 +61,9 @@ fn put_given<P: RunsRow>(
     row: &Row,
     whole: &Answer,
     out: &mut Vec<u8>,
-) -> Result<(), AllocError> {
+) -> Result<(), AllocError>
+    requires { P.ready program.now }
+{
     put_parts(&[b"> ", row.head.as_bytes(), b"\n"], out)?;
     put_answer(whole, out)?;
     for piece in row.pieces.iter().skip(1) {
@@ -73,7 +81,9 @@ fn put_all_each<P: RunsRow>(
     piece: u64,
     whole: &Answer,
     out: &mut Vec<u8>,
-) -> Result<(), AllocError> {
+) -> Result<(), AllocError>
+    requires { P.ready program.now }
+{
     for object in &row.each {
         let object = *object;
         let each = Each {
@@ -95,7 +105,9 @@ fn put_again<P: RunsRow>(
     piece: u64,
     whole: &Answer,
     out: &mut Vec<u8>,
-) -> Result<(), AllocError> {
+) -> Result<(), AllocError>
+    requires { P.ready program.now }
+{
     let more = None;
     let again = answer_to(program, alloc, Tried { row, piece, more }, &row.wires)?;
     put_if_other(&again, whole, piece, out)

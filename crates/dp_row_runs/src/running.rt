@@ -27,7 +27,9 @@ pub fn answer_to<P: RunsRow>(
     alloc: Global,
     tried: Tried<'_>,
     links: &[Vec<Coming>],
-) -> Result<Answer, AllocError> {
+) -> Result<Answer, AllocError>
+    requires { P.ready program.now }
+{
     let mut answer = Answer::new(alloc);
     put_answer_to(program, alloc, tried, links, &mut answer)?;
     Ok(answer)
@@ -40,7 +42,9 @@ fn put_answer_to<P: RunsRow>(
     tried: Tried<'_>,
     links: &[Vec<Coming>],
     answer: &mut Answer,
-) -> Result<(), AllocError> {
+) -> Result<(), AllocError>
+    requires { P.ready program.now }
+{
     let streams = streams_of(alloc, tried)?;
     let keeper = store_of(alloc, tried)?;
     let wires = wires_over(alloc, tried, links)?;
@@ -56,7 +60,9 @@ fn put_run<P: RunsRow>(
     wires: RowWires,
     keeper: MemKeeper,
     answer: &mut Answer,
-) -> Result<(), AllocError> {
+) -> Result<(), AllocError>
+    requires { P.ready program.now }
+{
     let RowWires { wires, sent } = wires;
     let gate = RowGate::new(row.hold);
     let run = RowRun {

@@ -13,7 +13,9 @@ pub fn put_tried<P: RunsRow>(
     alloc: Global,
     row: &Row,
     out: &mut Vec<u8>,
-) -> Result<(), AllocError> {
+) -> Result<(), AllocError>
+    requires { P.ready program.now }
+{
     if row.table.is_empty() {
         return Ok(());
     }
@@ -30,7 +32,9 @@ fn put_tried_in<P: RunsRow>(
     row: &Row,
     piece: u64,
     out: &mut Vec<u8>,
-) -> Result<(), AllocError> {
+) -> Result<(), AllocError>
+    requires { P.ready program.now }
+{
     let trials = trials_of(alloc, row, piece as usize)?;
     put_trials(program, alloc, row, &trials, piece, out)
 }
@@ -43,7 +47,9 @@ fn put_trials<P: RunsRow>(
     trials: &[Trial],
     piece: u64,
     out: &mut Vec<u8>,
-) -> Result<(), AllocError> {
+) -> Result<(), AllocError>
+    requires { P.ready program.now }
+{
     for trial in trials {
         put_trial(program, alloc, row, trial, piece, out)?;
     }
@@ -59,7 +65,9 @@ fn put_trial<P: RunsRow>(
     trial: &Trial,
     piece: u64,
     out: &mut Vec<u8>,
-) -> Result<(), AllocError> {
+) -> Result<(), AllocError>
+    requires { P.ready program.now }
+{
     let more = None;
     let answer = answer_to(program, alloc, Tried { row, piece, more }, &trial.wires)?;
     put_difference(trial, &answer, out)

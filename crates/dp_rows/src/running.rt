@@ -1,20 +1,23 @@
 //! The program, as rows run it.
 
+ghost use Rattle.std.specs.Thread.{IsSync};
+
 use dp_app_runs::{Host, Left, Resources, outcome_over};
-use dp_row_runs::{RowLeft, RowRun, RowStreams, RunsRow};
+use dp_row_runs::{RowLeft, RowRun, RowStreams, RunsRow, run};
 use dp_row_wires::{Told, put_told};
 use dp_serve::Reports;
 use std::alloc::{AllocError, Global};
 use std::sync::Wait;
 use std::thread::Threads;
 
-/// The program on threads of this runtime.
+/// The program, which a closure runs. The closure starts threads, and a trait's method may not.
 #[derive(Drop)]
-pub struct Program<'a, R> {
-    pub rt: &'a R,
+struct Program<F: Fn(Global, RowRun<'_>, &mut RowStreams<'_>) -> RowLeft<Reports>> {
+    run: F,
+    ghost ready: { F.IsAlwaysCallable run },
 }
 
-impl<'a, R: Threads + Wait + Sync> RunsRow for Program<'a, R> {
+impl<F: Fn(Global, RowRun<'_>, &mut RowStreams<'_>) -> RowLeft<Reports>> RunsRow for Program<F> {
     type Reports = Reports;
 
     fn run(
@@ -23,32 +26,7 @@ impl<'a, R: Threads + Wait + Sync> RunsRow for Program<'a, R> {
         run: RowRun<'_>,
         streams: &mut RowStreams<'_>,
     ) -> RowLeft<Reports> {
-        let rt = self.rt;
-        let RowRun {
-            words,
-            wires,
-            keeper,
-            gate,
-        } = run;
-        let Left {
-            status,
-            wires,
-            keeper,
-            reports,
-        } = outcome_over(
-            Host { rt, alloc, gate },
-            words,
-            &mut streams.input,
-            &mut streams.output,
-            &mut streams.diag,
-            Resources { wires, keeper },
-        );
-        RowLeft {
-            status,
-            wires,
-            keeper,
-            reports,
-        }
+        (self.run)(alloc, run, streams)
     }
 
     fn put_reports(
@@ -70,5 +48,54 @@ impl<'a, R: Threads + Wait + Sync> RunsRow for Program<'a, R> {
             }
         }
         Ok(())
+    }
+}
+
+/// Runs the rows of a text, and answers the status.
+pub fn run_rows<R: Threads + Wait + Sync>(
+    rt: &R,
+    alloc: Global,
+    text: &str,
+    out: &mut Vec<u8>,
+) -> u8 {
+    let program = Program {
+        run: |alloc: Global, run: RowRun<'_>, streams: &mut RowStreams<'_>| -> RowLeft<Reports>
+            requires { IsSync R.row }
+        { run_program(rt, alloc, run, streams) },
+    };
+    run(&program, alloc, text, out)
+}
+
+/// Runs the program.
+fn run_program<R: Threads + Wait + Sync>(
+    rt: &R,
+    alloc: Global,
+    run: RowRun<'_>,
+    streams: &mut RowStreams<'_>,
+) -> RowLeft<Reports> {
+    let RowRun {
+        words,
+        wires,
+        keeper,
+        gate,
+    } = run;
+    let Left {
+        status,
+        wires,
+        keeper,
+        reports,
+    } = outcome_over(
+        Host { rt, alloc, gate },
+        words,
+        &mut streams.input,
+        &mut streams.output,
+        &mut streams.diag,
+        Resources { wires, keeper },
+    );
+    RowLeft {
+        status,
+        wires,
+        keeper,
+        reports,
     }
 }
