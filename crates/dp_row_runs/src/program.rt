@@ -37,7 +37,7 @@ pub trait RunsRow {
     /// The reports of a server's links.
     type Reports: Drop;
 
-    /// Whether it may run.
+    /// What it needs to run.
     ghost ready: { Self → Type 0 };
 
     /// Runs the program on these words, over these streams, wires and this store.

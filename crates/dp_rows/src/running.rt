@@ -10,15 +10,17 @@ use std::alloc::{AllocError, Global};
 use std::sync::Wait;
 use std::thread::Threads;
 
-/// The program, which a closure runs. The closure starts threads, and a trait's method may not.
+/// The program, which starts threads of this runtime.
 #[derive(Drop)]
-struct Program<F: Fn(Global, RowRun<'_>, &mut RowStreams<'_>) -> RowLeft<Reports>> {
-    run: F,
-    ghost ready: { F.IsAlwaysCallable run },
+struct Program<'a, R> {
+    rt: &'a R,
 }
 
-impl<F: Fn(Global, RowRun<'_>, &mut RowStreams<'_>) -> RowLeft<Reports>> RunsRow for Program<F> {
+impl<'a, R: Threads + Wait + Sync> RunsRow for Program<'a, R> {
     type Reports = Reports;
+
+    // The proof of `run` isn't told the bound `Sync`.
+    ghost ready = { λ _. IsSync R.row };
 
     fn run(
         &self,
@@ -26,7 +28,32 @@ impl<F: Fn(Global, RowRun<'_>, &mut RowStreams<'_>) -> RowLeft<Reports>> RunsRow
         run: RowRun<'_>,
         streams: &mut RowStreams<'_>,
     ) -> RowLeft<Reports> {
-        (self.run)(alloc, run, streams)
+        let rt = self.rt;
+        let RowRun {
+            words,
+            wires,
+            keeper,
+            gate,
+        } = run;
+        let Left {
+            status,
+            wires,
+            keeper,
+            reports,
+        } = outcome_over(
+            Host { rt, alloc, gate },
+            words,
+            &mut streams.input,
+            &mut streams.output,
+            &mut streams.diag,
+            Resources { wires, keeper },
+        );
+        RowLeft {
+            status,
+            wires,
+            keeper,
+            reports,
+        }
     }
 
     fn put_reports(
@@ -58,44 +85,5 @@ pub fn run_rows<R: Threads + Wait + Sync>(
     text: &str,
     out: &mut Vec<u8>,
 ) -> u8 {
-    let program = Program {
-        run: |alloc: Global, run: RowRun<'_>, streams: &mut RowStreams<'_>| -> RowLeft<Reports>
-            requires { IsSync R.row }
-        { run_program(rt, alloc, run, streams) },
-    };
-    run(&program, alloc, text, out)
-}
-
-/// Runs the program.
-fn run_program<R: Threads + Wait + Sync>(
-    rt: &R,
-    alloc: Global,
-    run: RowRun<'_>,
-    streams: &mut RowStreams<'_>,
-) -> RowLeft<Reports> {
-    let RowRun {
-        words,
-        wires,
-        keeper,
-        gate,
-    } = run;
-    let Left {
-        status,
-        wires,
-        keeper,
-        reports,
-    } = outcome_over(
-        Host { rt, alloc, gate },
-        words,
-        &mut streams.input,
-        &mut streams.output,
-        &mut streams.diag,
-        Resources { wires, keeper },
-    );
-    RowLeft {
-        status,
-        wires,
-        keeper,
-        reports,
-    }
+    run(&Program { rt }, alloc, text, out)
 }
