@@ -6,9 +6,8 @@ set -eu
 top=$(cd "$(dirname "$0")/.." && pwd)
 work=$(mktemp -d)
 trap 'rm -rf "$work"' EXIT
-crates="dp_blend dp_fields dp_msg_draw dp_ops dp_paint dp_pixels dp_shift dp_steps dp_tile"
 mkdir -p "$work/crates/tiles/src" "$work/crates/tiles/proofs/main"
-for name in $crates; do
+for name in $("$top/bench/below.py" dp_blend dp_msg_draw dp_paint dp_steps dp_tile); do
   mkdir "$work/crates/$name"
   for part in src specs proofs; do
     [ ! -d "$top/crates/$name/$part" ] || cp -r "$top/crates/$name/$part" "$work/crates/$name/$part"

@@ -1,5 +1,5 @@
-//! The tests of rollbacks, forks and screens, in a crate of their own: so each crate of these is
-//! proved once, and not once more with its tests.
+//! The tests of which commands of a history are drawn, and of rollbacks, boards that trail and forks
+//! over rows of numbers. They stand on no picture, so a change of pixels or layers proves none again.
 #![tactic(auto)]
 
 #[cfg(test)]
@@ -9,4 +9,4 @@ mod numbers;
 #[cfg(test)]
 mod rollbacks;
 #[cfg(test)]
-mod screens;
+mod strokes;

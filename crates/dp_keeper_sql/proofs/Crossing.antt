@@ -2,7 +2,7 @@
 use denote.Param.Send.{IsSend, sendable, view_send}
 use denote.Param.SendFields.{declared_send}
 use Rattle.std.proofs.Crossing.{crosses}
-use Rattle.dp_sql.proofs.Crossing.{table_send}
+use Rattle.dp_file_table.proofs.Crossing.{table_send}
 use Rattle.dp_keeper_sql.specs.contracts.keeper.SqlKeeper as SqlKeeper
 use Rattle.dp_keeper_sql.specs.contracts.keeper.SqlKeeper.TheInside as inside
 

@@ -1,4 +1,4 @@
-use Rattle.dp_boards_tests.proofs.screens.screens_of_two_painters.Given as goal
+use Rattle.dp_screens_tests.proofs.screens.screens_of_two_painters.Given as goal
 
 abbrev pub ghosts-check_all-D-Ledger : goal.ghosts-check_all-D-Ledger
 ghosts-check_all-D-Ledger g a = record { name = a.draw_blank.name; parts = a.draw_blank.parts }
