@@ -1,10 +1,9 @@
 //! Runs of a row with each call of an object failing in turn.
 
+use crate::program::RunsRow;
 use crate::running::{Tried, answer_to};
 use dp_row_texts::{Answer, Fail, Object, Row, put_numbered, put_parts, put_text};
 use std::alloc::{AllocError, Global};
-use std::sync::Wait;
-use std::thread::Threads;
 
 /// A row in pieces of this length, of which each call of an object fails in turn, and what it gives
 /// if none fails.
@@ -31,27 +30,31 @@ impl<'a> Each<'a> {
 /// Has the first call of an object fail, then the second, until one isn't made. Adds how many were
 /// made, with the status and the line on diag. Adds a line for each that gives another, or that
 /// wrote or sent what isn't a prefix.
-pub fn put_each<R: Threads + Wait + Sync>(
-    rt: &R,
+pub fn put_each<P: RunsRow>(
+    program: &P,
     alloc: Global,
     each: Each<'_>,
     out: &mut Vec<u8>,
-) -> Result<(), AllocError> {
-    let first = answer_to(rt, alloc, each.tried(1), &each.row.wires)?;
-    put_calls(rt, alloc, each, &first, out)
+) -> Result<(), AllocError>
+    requires { P.ready program.now }
+{
+    let first = answer_to(program, alloc, each.tried(1), &each.row.wires)?;
+    put_calls(program, alloc, each, &first, out)
 }
 
 /// The same, if the first call gives this.
-fn put_calls<R: Threads + Wait + Sync>(
-    rt: &R,
+fn put_calls<P: RunsRow>(
+    program: &P,
     alloc: Global,
     each: Each<'_>,
     first: &Answer,
     out: &mut Vec<u8>,
-) -> Result<(), AllocError> {
+) -> Result<(), AllocError>
+    requires { P.ready program.now }
+{
     let mut made = 0;
     for call in 1..1_000_000u64 {
-        if !put_call(rt, alloc, each, call, first, out)? {
+        if !put_call(program, alloc, each, call, first, out)? {
             break;
         }
         made = call;
@@ -67,15 +70,17 @@ fn put_calls<R: Threads + Wait + Sync>(
 
 /// Has the call of this number fail, and answers whether it is made. Adds a line if it gives
 /// another than the first, or if what it wrote or sent isn't a prefix.
-fn put_call<R: Threads + Wait + Sync>(
-    rt: &R,
+fn put_call<P: RunsRow>(
+    program: &P,
     alloc: Global,
     each: Each<'_>,
     call: u64,
     first: &Answer,
     out: &mut Vec<u8>,
-) -> Result<bool, AllocError> {
-    let answer = answer_to(rt, alloc, each.tried(call), &each.row.wires)?;
+) -> Result<bool, AllocError>
+    requires { P.ready program.now }
+{
+    let answer = answer_to(program, alloc, each.tried(call), &each.row.wires)?;
     let is_made = !answer.same(each.whole);
     let is_due = answer.status == first.status
         && answer.said.as_slice() == first.said.as_slice()

@@ -1,10 +1,12 @@
 //! Runs of rows of the program over memory. `dp_rows` says in its own page how rows are written.
-//! They stand apart from it, since the check of a program takes memory for all that it links.
+//! The program is a parameter (`RunsRow`), so a change of the program proves none of this again.
 #![tactic(auto)]
 
 mod each;
+mod program;
 mod rows;
 mod running;
 mod tried;
 
+pub use program::{RowLeft, RowRun, RowStreams, RunsRow};
 pub use rows::run;

@@ -3,25 +3,15 @@
 
 ghost use Rattle.std.specs.Prelude.{◌≤◌};
 
-use dp_app_runs::{Host, Left, Resources, outcome_over};
+use crate::program::{RowLeft, RowRun, RowStreams, RunsRow};
 use dp_io::MemSink;
 use dp_keeper::MemKeeper;
 use dp_row_texts::{Answer, Coming, Fail, Object, Row, put_parts};
 use dp_row_wires::{
-    LinkFails, RowGate, RowSource, RowWire, RowWires, Sent, Told, keeper_of, put_gate, put_kept,
-    put_sent_on, put_told, wires_of,
+    LinkFails, RowGate, RowSource, RowWires, Sent, keeper_of, put_gate, put_kept, put_sent_on,
+    wires_of,
 };
 use std::alloc::{AllocError, Global};
-use std::sync::Wait;
-use std::thread::Threads;
-
-/// What a row reads and writes.
-#[derive(Drop)]
-struct Streams<'a> {
-    input: RowSource<'a>,
-    output: MemSink,
-    diag: MemSink,
-}
 
 /// What is tried: a row in pieces of this length, with one more call that fails.
 #[derive(Clone, Copy)]
@@ -32,104 +22,78 @@ pub struct Tried<'a> {
 }
 
 /// Runs a row over these links.
-pub fn answer_to<R: Threads + Wait + Sync>(
-    rt: &R,
+pub fn answer_to<P: RunsRow>(
+    program: &P,
     alloc: Global,
     tried: Tried<'_>,
     links: &[Vec<Coming>],
-) -> Result<Answer, AllocError> {
+) -> Result<Answer, AllocError>
+    requires { P.ready program.now }
+{
     let mut answer = Answer::new(alloc);
-    put_answer_to(rt, alloc, tried, links, &mut answer)?;
+    put_answer_to(program, alloc, tried, links, &mut answer)?;
     Ok(answer)
 }
 
 /// Runs a row over these links, and puts what that gives into an answer.
-fn put_answer_to<R: Threads + Wait + Sync>(
-    rt: &R,
+fn put_answer_to<P: RunsRow>(
+    program: &P,
     alloc: Global,
     tried: Tried<'_>,
     links: &[Vec<Coming>],
     answer: &mut Answer,
-) -> Result<(), AllocError> {
+) -> Result<(), AllocError>
+    requires { P.ready program.now }
+{
     let streams = streams_of(alloc, tried)?;
     let keeper = store_of(alloc, tried)?;
     let wires = wires_over(alloc, tried, links)?;
-    put_run(rt, alloc, tried.row, streams, wires, keeper, answer)
+    put_run(program, alloc, tried.row, streams, wires, keeper, answer)
 }
 
 /// Runs a row over these, and puts what that gives into an answer.
-fn put_run<R: Threads + Wait + Sync>(
-    rt: &R,
+fn put_run<P: RunsRow>(
+    program: &P,
     alloc: Global,
     row: &Row,
-    streams: Streams<'_>,
+    mut streams: RowStreams<'_>,
     wires: RowWires,
     keeper: MemKeeper,
     answer: &mut Answer,
-) -> Result<(), AllocError> {
-    let Streams {
-        mut input,
-        mut output,
-        mut diag,
-    } = streams;
+) -> Result<(), AllocError>
+    requires { P.ready program.now }
+{
     let RowWires { wires, sent } = wires;
     let gate = RowGate::new(row.hold);
-    let host = Host {
-        rt,
-        alloc,
+    let run = RowRun {
+        words: &row.words,
+        wires,
+        keeper,
         gate: &gate,
     };
-    let left = outcome_over(
-        host,
-        &row.words,
-        &mut input,
-        &mut output,
-        &mut diag,
-        Resources { wires, keeper },
-    );
+    let left = program.run(alloc, run, &mut streams);
     answer.status = left.status;
-    put_left(alloc, &left, &output, &diag, &gate, &sent, answer)
+    put_left(program, alloc, &left, &streams, &gate, &sent, answer)
 }
 
 /// Puts what a run left into an answer, also of the gate. Then a line if a pause was given up.
-fn put_left(
+fn put_left<P: RunsRow>(
+    program: &P,
     alloc: Global,
-    left: &Left<RowWire, MemKeeper>,
-    output: &MemSink,
-    diag: &MemSink,
+    left: &RowLeft<P::Reports>,
+    streams: &RowStreams<'_>,
     gate: &RowGate,
     sent: &Sent,
     answer: &mut Answer,
 ) -> Result<(), AllocError> {
-    answer.output.extend_from_slice(output.as_slice())?;
-    answer.said.extend_from_slice(diag.as_slice())?;
+    answer.output.extend_from_slice(streams.output.as_slice())?;
+    answer.said.extend_from_slice(streams.diag.as_slice())?;
     put_sent_on(&left.wires, &mut answer.sent)?;
-    put_reports(alloc, left, &mut answer.left)?;
+    program.put_reports(alloc, &left.reports, &mut answer.left)?;
     put_kept(&left.keeper, &mut answer.left)?;
     put_gate(gate, &mut answer.left)?;
     if sent.gave_up() > 0 {
         put_parts(&[b"a pause was given up\n"], &mut answer.left)?;
-    }
-    Ok(())
-}
-
-/// Adds a line for each link of a server.
-fn put_reports(
-    alloc: Global,
-    left: &Left<RowWire, MemKeeper>,
-    text: &mut Vec<u8>,
-) -> Result<(), AllocError> {
-    for k in 0..left.reports.len() {
-        if let Some(report) = left.reports.get(k) {
-            let told = Told {
-                worker: report.worker,
-                link: report.link,
-                conn: report.conn,
-                up: report.up_end,
-                down: report.down_end,
-            };
-            put_told(alloc, &told, text)?;
-        }
     }
     Ok(())
 }
@@ -157,12 +121,12 @@ fn calls_of(alloc: Global, tried: Tried<'_>, object: Object) -> Result<Vec<u64>,
 }
 
 /// What a row reads and writes.
-fn streams_of<'a>(alloc: Global, tried: Tried<'a>) -> Result<Streams<'a>, AllocError> {
+fn streams_of<'a>(alloc: Global, tried: Tried<'a>) -> Result<RowStreams<'a>, AllocError> {
     let output = sink_of(alloc, tried, Object::Output, tried.row.room as usize)?;
     let diag = sink_of(alloc, tried, Object::Diag, 1000)?;
     let calls = calls_of(alloc, tried, Object::Input)?;
     let input = RowSource::new(&tried.row.input, piece_of(tried), calls);
-    Ok(Streams {
+    Ok(RowStreams {
         input,
         output,
         diag,

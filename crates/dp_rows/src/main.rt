@@ -36,8 +36,10 @@
 //! if one gave something else than is due.
 #![tactic(auto)]
 
+mod running;
+
+use crate::running::run_rows;
 use dp_io::{StdSink, put_all};
-use dp_row_runs::run;
 use std::io::read_to_string;
 use std::process::ExitCode;
 
@@ -45,7 +47,7 @@ fn main(rt: HostRuntime) -> ExitCode {
     let alloc = rt.alloc();
     let mut out = Vec::new(alloc);
     let status = match read_to_string(alloc, rt.stdin()) {
-        Ok(text) => run(&rt, alloc, text.as_str(), &mut out),
+        Ok(text) => run_rows(&rt, alloc, text.as_str(), &mut out),
         Err(_) => 2,
     };
     match put_all(&mut StdSink::new(rt.stdout()), &out) {
