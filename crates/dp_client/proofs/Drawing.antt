@@ -1,22 +1,20 @@
 -- What stands drawn of a client, as it says and takes.
-use Rattle.std.proofs.Common.{◌≡◌, ℕ, Bool, true, false, List, [], ◌∷◌, ◌++◌, map, drop, take}
+use Rattle.std.proofs.Common.{◌≡◌, ℕ, true, false, List, [], ◌∷◌, ◌++◌, map, drop, take}
 use Rattle.std.proofs.Common.{refl, sym}
 use Rattle.std.proofs.Common.{ap, ◌∙◌, subst}
 use Rattle.std.specs.Prelude.{Option, None, Some, option_to_list}
-use Rattle.std.specs.List.{filter_map, flat_map, fold}
+use Rattle.std.specs.List.{filter_map}
 use Rattle.std.proofs.lemmas.List.{map-append}
 use Rattle.dp_msg_draw.specs.declared.draw.Draw.{Draw}
 use Rattle.dp_msg_meta.specs.declared.message.Meta.{Meta}
-use Rattle.dp_msg_meta.specs.declared.message.Meta.TheVariants.{UndoDepth, ResetMark}
+use Rattle.dp_msg_meta.specs.declared.message.Meta.TheVariants.{UndoDepth}
 use Rattle.dp_messages.specs.declared.message.Msg.{Msg}
 use Rattle.dp_messages.specs.declared.message.Msg.TheVariants as msg
 use Rattle.dp_messages.specs.declared.message.Entry.{Entry}
-use Rattle.dp_messages.specs.Properties.{command_of, marked}
+use Rattle.dp_messages.specs.Properties.{command_of}
 use Rattle.dp_board.specs.declared.act.Act.{Act}
-use Rattle.dp_board.specs.declared.act.Act.TheVariants as act
 use Rattle.dp_board.specs.declared.act.UserAct.{UserAct}
 use Rattle.dp_board.specs.Commands as strokes
-use Rattle.dp_board.specs.Replay as board
 use Rattle.dp_fork.specs.declared.own.Own.{Own}
 use Rattle.dp_fork.specs.declared.own.Own.TheVariants.{Stranger, Echo, Dropped, Lost}
 use Rattle.dp_fork.specs.Fork.{Answers, commands_in, left_by}
@@ -32,7 +30,7 @@ meta_command (UndoDepth depth) = refl
 meta_command m = refl
 
 -- the command of a message is that of its act
-pub command_same : (user : ℕ) (m : Msg)
+command_same : (user : ℕ) (m : Msg)
     → strokes.command_of (act_of_message user m) true ≡ option_to_list (command_of m)
 command_same user msg.Point = refl
 command_same user (msg.Undo target false) = refl
@@ -95,11 +93,6 @@ answers_own Echo user entry fork is echo =
     ∙ ap (λ (n : ℕ). act_of_message n entry.msg ∷ []) (sym is)
 answers_own Dropped user entry fork is echo = tt
 answers_own Lost user entry fork is echo = tt
-
--- the user's act of an entry
-pub acted : (entry : Entry) (x : Act Draw) → x ≡ act_of entry
-    → record { user = entry.user; act = x } ≡ user_act_of entry
-acted entry x is = ap (λ (a : Act Draw). record { user = entry.user; act = a }) is
 
 -- ---- what stands drawn
 
