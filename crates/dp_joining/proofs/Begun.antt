@@ -30,22 +30,23 @@ use Rattle.dp_screen.proofs.Leads.{counts_first}
 use Rattle.dp_script.specs.Counters.{Counters}
 use Rattle.dp_script.specs.Leaves.{AreFirstOf}
 use Rattle.dp_script.specs.Limits.{lines_limit}
-use Rattle.dp_joining.specs.declared.stops.LinkCause.{LinkCause}
-use Rattle.dp_joining.specs.Joining.{Joining, Progress, Goes, Waits, acted, after_line, along}
-use Rattle.dp_joining.specs.Joining.{asked_by, came_to, caller, farewell_bytes, greeted, joined}
-use Rattle.dp_joining.specs.Joining.{newcomer, printed, takeable, took_entry}
+use Rattle.dp_joiner.specs.declared.stops.LinkCause.{LinkCause}
+use Rattle.dp_joiner.specs.Joining.{Joining, Progress, Goes, Waits, acted, after_line, along}
+use Rattle.dp_joiner.specs.Joining.{asked_by, came_to, caller, farewell_bytes, greeted, joined}
+use Rattle.dp_joiner.specs.Joining.{newcomer, printed, takeable, took_entry}
 use Rattle.dp_joining.specs.Leaves.{BeginsDue, GrowsTowards, IsParting, JoinLeaves, Traffic}
 use Rattle.dp_joining.specs.Leaves.{WhereKnown, WritesAll, WritesPart, WritesTaken}
-use Rattle.dp_joining.specs.Outcomes.{AllAsk, BeginsWith, EndsByLink, EndsByScript}
+use Rattle.dp_joiner.specs.Links.{BeginsWith}
+use Rattle.dp_joining.specs.Outcomes.{AllAsk, EndsByLink, EndsByScript}
 use Rattle.dp_joining.specs.Outcomes.{IsJoinStep, JoinComesTo, JoinOutcome, script_outcome}
-use Rattle.dp_joining.specs.Steps.{DrawsFew}
-use Rattle.dp_joining.proofs.Along.{along_enough, along_few}
-use Rattle.dp_joining.proofs.Greeted.{greets}
+use Rattle.dp_joining.specs.Leaves.{DrawsFew}
+use Rattle.dp_joiner.proofs.Along.{along_enough, along_few}
+use Rattle.dp_joiner.proofs.Greeted.{greets}
 use Rattle.dp_joining.proofs.Leaving.{Writes}
 use Rattle.dp_joining.proofs.OneOutcome.{AllLaws, IsClosed, IsEnded, asked_alike, ends_by}
 use Rattle.dp_joining.proofs.OneOutcome.{first_within, lists_alike, one_outcome}
-use Rattle.dp_joining.proofs.Prefixes.{IsFirstOf, begin_alike, within_all}
-use Rattle.dp_joining.proofs.Unique.{joined_closed, joined_goes, joined_waits, longer}
+use Rattle.dp_joiner.proofs.Prefixes.{IsFirstOf, begin_alike, within_all}
+use Rattle.dp_joiner.proofs.Unique.{joined_closed, joined_goes, joined_waits, longer}
 
 -- ---- first parts
 

@@ -16,11 +16,13 @@ use Rattle.dp_schedule.specs.declared.join_action.JoinAction.{JoinAction}
 use Rattle.dp_script.specs.Leaves.{AreFirstOf}
 use Rattle.dp_script.specs.Limits.{lines_limit}
 use Rattle.dp_io.specs.Limits.{stream_limit}
-use Rattle.dp_joining.specs.declared.stops.LinkCause.{LinkCause}
-use Rattle.dp_joining.specs.declared.stops.LinkCause.TheVariants as cause
-use Rattle.dp_joining.specs.Joining.{Progress, Goes, Waits, is_closed, joined}
-use Rattle.dp_joining.specs.Outcomes.{AllAsk, BeginsWith, EndsLink, IsJoinStep, JoinComesTo}
-use Rattle.dp_joining.specs.Outcomes.{JoinOutcome, LinkComesTo, link_outcome, script_outcome}
+use Rattle.dp_joiner.specs.declared.stops.LinkCause.{LinkCause}
+use Rattle.dp_joiner.specs.declared.stops.LinkCause.TheVariants as cause
+use Rattle.dp_joiner.specs.Joining.{Progress, Goes, Waits, is_closed, joined}
+use Rattle.dp_joiner.specs.Links.{BeginsWith, EndsLink}
+use Rattle.dp_joining.specs.Outcomes.{AllAsk, IsJoinStep, JoinComesTo}
+use Rattle.dp_joiner.specs.Links.{LinkComesTo}
+use Rattle.dp_joining.specs.Outcomes.{JoinOutcome, link_outcome, script_outcome}
 use Rattle.dp_joining.proofs.Doing.{asked_more}
 use Rattle.dp_joining.proofs.Leaving.{FurtherStep}
 

@@ -12,17 +12,19 @@ use Rattle.dp_messages.specs.declared.message.Entry.{Entry}
 use Rattle.dp_schedule.specs.declared.join_action.JoinAction.{JoinAction}
 use Rattle.dp_schedule.specs.JoinGrammar.{Asks}
 use Rattle.dp_script.specs.Leaves.{AreFirstOf}
-use Rattle.dp_joining.specs.declared.stops.LinkCause.{LinkCause}
-use Rattle.dp_joining.specs.declared.stops.LinkCause.TheVariants as cause
-use Rattle.dp_joining.specs.Joining.{Joining, Goes, Waits, is_closed, joined}
-use Rattle.dp_joining.specs.Outcomes.{AllAsk, BeginsWith, EndsByLink, EndsByScript, EndsLink}
-use Rattle.dp_joining.specs.Outcomes.{IsJoinStep, JoinComesTo, LinkComesTo, JoinOutcome}
+use Rattle.dp_joiner.specs.declared.stops.LinkCause.{LinkCause}
+use Rattle.dp_joiner.specs.declared.stops.LinkCause.TheVariants as cause
+use Rattle.dp_joiner.specs.Joining.{Joining, Goes, Waits, is_closed, joined}
+use Rattle.dp_joiner.specs.Links.{BeginsWith, EndsLink}
+use Rattle.dp_joining.specs.Outcomes.{AllAsk, EndsByLink, EndsByScript}
+use Rattle.dp_joiner.specs.Links.{LinkComesTo}
+use Rattle.dp_joining.specs.Outcomes.{IsJoinStep, JoinComesTo, JoinOutcome}
 use Rattle.dp_joining.specs.Outcomes.{link_outcome, script_outcome}
 use Rattle.dp_script.specs.Limits.{lines_limit}
-use Rattle.dp_joining.proofs.Along.{closed-longer}
-use Rattle.dp_joining.proofs.Prefixes.{IsFirstOf, Laws, begin_alike, first_more, first_nil}
-use Rattle.dp_joining.proofs.Prefixes.{within_all}
-use Rattle.dp_joining.proofs.Unique.{joined_closed, joined_goes, joined_waits}
+use Rattle.dp_joiner.proofs.Along.{closed-longer}
+use Rattle.dp_joiner.proofs.Prefixes.{IsFirstOf, Laws, begin_alike, first_more, first_nil}
+use Rattle.dp_joiner.proofs.Prefixes.{within_all}
+use Rattle.dp_joiner.proofs.Unique.{joined_closed, joined_goes, joined_waits}
 
 -- the laws of the crates below
 pub record AllLaws : Type 0 where
