@@ -4,7 +4,9 @@
                                  proves all in each run: there CMD is `rt ci`
 bench/gate.py watch PID LOG      the same of a gate that runs already: of the process PID, until it ends
 bench/gate.py table LOG ..       prints the seconds of each crate, as a table for docs/
-bench/gate.py above CRATE LOG ..  prints what a change of this crate's proofs has proved again
+bench/gate.py above CRATE LOG ..  prints what a change of this crate's proofs has proved again: crates,
+                                 minutes of a processor, those of the longest chain of jobs in a row,
+                                 and those on the clock, if each job takes one of four processors
 bench/gate.py page LOG ..        writes both tables of docs/gate.md anew, and its sentence of sums
 bench/gate.py functions CRATE    after `rm -rf out/incremental; rt check` in the crate: the seconds that
                                  the check took for each function, dearest first
@@ -205,12 +207,64 @@ def sums_of(rows):
     return {kind: sum(rows[it][kind][1] for it in names) for kind in (*KINDS, "clang")}
 
 
-def above(crate, rows):
-    """How many crates stand on this one, with itself, and the minutes that proving them takes."""
+def above(crate):
+    """The crates that stand on this one, with itself."""
     crates, found = listed(), [crate]
     for it in found:
         found += [name for name, below in crates.items() if it in below and name not in found]
-    return len(found), sum(seconds_of(rows[it]) for it in found if it in rows) / 60
+    return found
+
+
+def jobs_of(names, rows):
+    """What the gate does for these crates: of each job its seconds, and the jobs that it waits for."""
+    crates, jobs = listed(), {}
+    for it in names:
+        took = {kind: rows[it][kind][1] for kind in KINDS} if it in rows else dict.fromkeys(KINDS, 0)
+        jobs[it, "proof"] = took["proof"], [(low, "proof") for low in crates[it] if low in names]
+        for kind in ("compiled", "tests"):
+            jobs[it, kind] = took[kind], [(it, "proof")]
+        jobs[it, "edits"] = took["seed"] + took["edits"], [(it, "proof")]
+    return {job: told for job, told in jobs.items() if told[0] or job[1] == "proof"}
+
+
+def tails_of(jobs):
+    """Of each job, the seconds of the longest chain of jobs that begins with it."""
+    tails = {}
+
+    def tail(job):
+        """That of one job."""
+        if job not in tails:
+            later = [it for it, (_, below) in jobs.items() if job in below]
+            tails[job] = jobs[job][0] + max(map(tail, later), default=0)
+        return tails[job]
+
+    for job in jobs:
+        tail(job)
+    return tails
+
+
+def clock_of(jobs, processors=4):
+    """The seconds on the clock, if of the jobs that can begin that with the longest chain does."""
+    tails, now, running, ended = tails_of(jobs), 0.0, [], set()
+    waiting = sorted(jobs, key=lambda it: -tails[it])
+    while waiting or running:
+        ready = [it for it in waiting if ended.issuperset(jobs[it][1])]
+        for job in ready[: processors - len(running)]:
+            waiting.remove(job)
+            running.append((now + jobs[job][0], job))
+        now = min(running)[0]
+        ended |= {job for end, job in running if end <= now}
+        running = [(end, job) for end, job in running if end > now]
+    return now
+
+
+def change(crate, rows):
+    """Of a change in a crate: how many crates are proved again, the minutes of a processor, those of
+    the longest chain, and those on the clock of four processors."""
+    jobs = jobs_of(above(crate), rows)
+    took = sum(it[0] for it in jobs.values())
+    count = sum(kind == "proof" for _, kind in jobs)
+    return count, took / 60, max(tails_of(jobs).values()) / 60, clock_of(jobs) / 60
 
 
 def put_table(text, head, lines):
@@ -238,7 +292,7 @@ def page(logs):
     text = put_table(text, "| crate | proof", table_of(rows))
     change = re.search(r"\n\| a change in .*\n.*\n((?:\|.*\n)+)", text)
     crates = [line.split("|")[1].strip() for line in change[1].strip().split("\n")]
-    lines = [f"| {it} | {count} | {took:.0f} |" for it in crates for count, took in [above(it, rows)]]
+    lines = [f"| {it} | {{}} | {{:.0f}} | {{:.0f}} | {{:.0f}} |".format(*change(it, rows)) for it in crates]
     text = text[: change.start(1)] + "\n".join(lines) + "\n" + text[change.end(1) :]
     first = text.index("From nothing the gate takes")
     text = text[:first] + sentence_of(rows) + text[text.index("\n\n", first) :]
@@ -268,8 +322,9 @@ if __name__ == "__main__":
     if len(sys.argv) >= 3 and sys.argv[1] == "table":
         sys.exit(print("\n".join(table_of(rows_of(sys.argv[2:])))))
     if len(sys.argv) >= 4 and sys.argv[1] == "above":
-        count, took = above(sys.argv[2], rows_of(sys.argv[3:]))
-        sys.exit(print(f"{sys.argv[2]}: {count} crates, {took:.0f} minutes of a processor"))
+        count, took, chain, clock = change(sys.argv[2], rows_of(sys.argv[3:]))
+        told = f"{count} crates, {took:.1f} minutes of a processor, {chain:.1f} of the longest chain"
+        sys.exit(print(f"{sys.argv[2]}: {told}, {clock:.1f} on four processors"))
     if len(sys.argv) == 3 and sys.argv[1] == "functions":
         sys.exit(functions(sys.argv[2]))
     if len(sys.argv) >= 3 and sys.argv[1] == "page":

@@ -7,7 +7,7 @@ set -eu
 top=$(cd "$(dirname "$0")/.." && pwd)
 work=$(mktemp -d)
 trap 'rm -rf "$work"' EXIT
-crates="dp_blend dp_board dp_canvas dp_fields dp_layers dp_msg_draw dp_ops dp_paint dp_pixels dp_plain"
+crates="dp_blend dp_board dp_canvas dp_fields dp_layered dp_layers dp_msg_draw dp_ops dp_paint dp_pixels dp_plain"
 mkdir -p "$work/crates/fills/src"
 for name in $crates dp_rollback dp_shift dp_steps dp_tile; do
   mkdir "$work/crates/$name"

@@ -7,7 +7,7 @@ top=$(cd "$(dirname "$0")/.." && pwd)
 work=$(mktemp -d)
 trap 'rm -rf "$work"' EXIT
 below='dp_steps dp_lists dp_blend dp_fields dp_frame dp_board dp_msg_draw dp_msg_meta dp_messages'
-below="$below dp_layers dp_pixels dp_tile dp_ops dp_shift dp_paint dp_plain dp_canvas dp_snap"
+below="$below dp_layers dp_pixels dp_tile dp_ops dp_shift dp_paint dp_plain dp_layered dp_canvas dp_snap"
 mkdir -p "$work/crates/shots/src" "$work/crates/shots/proofs/main"
 for name in $below; do
   cp -r "$top/crates/$name" "$work/crates/$name"

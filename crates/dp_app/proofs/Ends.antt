@@ -16,13 +16,14 @@ use Rattle.dp_words.specs.declared.command_line.LocalCommand.{LocalCommand}
 use Rattle.dp_words.specs.declared.command_line.LocalCommand.TheVariants.{World}
 use Rattle.dp_words.specs.declared.command_line.Service.{Service}
 use Rattle.dp_world.specs.RunEnds.{WorldLeaves}
-use Rattle.dp_commands.specs.Answer.{Says, SaysNoLink, SaysUsage, status_of}
+use Rattle.dp_endings.specs.Answer.{Says, SaysNoLink, SaysUsage, status_of}
 use Rattle.dp_commands.specs.Commands.{AskForLocal, Asks, HasLink, HasLinks, HasWires, IsCommand}
 use Rattle.dp_commands.specs.Commands.{LacksWires}
-use Rattle.dp_commands.specs.declared.ending.Ending.{Ending}
-use Rattle.dp_commands.specs.declared.ending.Ending.TheVariants.{Usage, NoLink, NoWords}
-use Rattle.dp_commands.specs.Endings.{Effects, KeepsNothing, NothingIsDone, Untouched, Wires}
-use Rattle.dp_commands.specs.Endings.{StaysLocal, code_of}
+use Rattle.dp_endings.specs.declared.ending.Ending.{Ending}
+use Rattle.dp_endings.specs.declared.ending.Ending.TheVariants.{Usage, NoLink, NoWords}
+use Rattle.dp_commands.specs.Effects.{Effects, KeepsNothing, NothingIsDone, Untouched, Wires}
+use Rattle.dp_commands.specs.Effects.{StaysLocal}
+use Rattle.dp_endings.specs.Endings.{code_of}
 use Rattle.dp_commands.specs.Joins.{HasJoined}
 use Rattle.dp_commands.specs.Kinds.{NothingRuns, EndsWords, KindLeaves, Reads}
 use Rattle.dp_commands.specs.Runs.{IsReadWhole}

@@ -11,8 +11,8 @@ use Rattle.dp_serve_laws.specs.Acts.{KeepsActs}
 use Rattle.dp_serve_laws.specs.Stored.{HoldRows, IsResumed}
 use Rattle.dp_serve.specs.declared.report.LinkReport.{LinkReport}
 use Rattle.dp_commands.specs.Commands.{AskForLocal, HasLink, HasWires}
-use Rattle.dp_commands.specs.declared.ending.Ending.{Ending}
-use Rattle.dp_commands.specs.Endings.{Effects, KeepsNothing, Wires, served_wires}
+use Rattle.dp_endings.specs.declared.ending.Ending.{Ending}
+use Rattle.dp_commands.specs.Effects.{Effects, KeepsNothing, Wires, served_wires}
 use Rattle.dp_commands.specs.Kinds.{EndsWords}
 use Rattle.dp_commands.specs.Servers.{NotResumed, ServedOn}
 use Rattle.dp_app.specs.Stores.{HoldsKept}

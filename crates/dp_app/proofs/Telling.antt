@@ -12,13 +12,13 @@ use Rattle.dp_session.specs.declared.resume.ResumeFault.TheVariants as fault
 use Rattle.dp_session.specs.Resuming.{CountsFault, IsBad}
 use Rattle.dp_words.specs.declared.command_line.CommandLine.TheVariants.{Local, Join, Listen}
 use Rattle.dp_words.specs.declared.command_line.LocalCommand.{LocalCommand}
-use Rattle.dp_commands.specs.Answer.{SaysLine}
+use Rattle.dp_endings.specs.Answer.{SaysLine}
 use Rattle.dp_commands.specs.Commands.{AskAndLack, Asks, HasWires, IsCommand}
-use Rattle.dp_commands.specs.declared.ending.Ending.{Ending}
-use Rattle.dp_commands.specs.declared.ending.Ending.TheVariants.{Usage, NoLink, NoWords, Run}
-use Rattle.dp_commands.specs.declared.ending.Ending.TheVariants.{StoreFault, BadRow}
-use Rattle.dp_commands.specs.Endings.{Effects, NothingIsDone, Streams, Untouched, Wires, code_of}
-use Rattle.dp_commands.specs.Endings.{ending_line}
+use Rattle.dp_endings.specs.declared.ending.Ending.{Ending}
+use Rattle.dp_endings.specs.declared.ending.Ending.TheVariants.{Usage, NoLink, NoWords, Run}
+use Rattle.dp_endings.specs.declared.ending.Ending.TheVariants.{StoreFault, BadRow}
+use Rattle.dp_commands.specs.Effects.{Effects, NothingIsDone, Streams, Untouched, Wires}
+use Rattle.dp_endings.specs.Endings.{code_of, ending_line}
 use Rattle.dp_commands.specs.Faults.{AskAndFailed, WireFailed}
 use Rattle.dp_commands.specs.Joins.{JoinsOn}
 use Rattle.dp_commands.specs.Kinds.{NothingRuns, EndsWords, RunsLocally}

@@ -3,6 +3,7 @@
 
 mod program;
 
-pub use dp_commands::{local_commands_are_runs, status_of};
+pub use dp_commands::local_commands_are_runs;
+pub use dp_endings::status_of;
 pub use dp_lines::RunEnd;
 pub use program::{Outcome, drawpile};

@@ -3,11 +3,12 @@
 ghost use Rattle.std.specs.Prelude.{◌≡◌, ◌+◌, ◌≤◌};
 
 use dp_blend::Pixel;
+use dp_layered::LayeredBoard;
 use dp_layers::Share;
 use dp_msg_draw::Draw;
 use dp_paint::{DeferredGrid, Workers};
 use dp_pixels::{Resize, pixels_stay_pixels};
-use dp_plain::{LayerPixels, LayeredBoard, known_colors};
+use dp_plain::{LayerPixels, known_colors};
 use dp_steps::Steps;
 use dp_wire::Gate;
 use std::alloc::{AllocError, Global};

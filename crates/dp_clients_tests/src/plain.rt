@@ -6,11 +6,13 @@ ghost use Rattle.dp_layers.specs.Rows.{layers_of};
 
 use dp_blend::{Pixel, of_argb};
 use dp_board::{Act, Board};
+use dp_layered::PlainBoard;
 use dp_layers::rows_by_id;
 use dp_messages::{Entry, Msg};
 use dp_msg_draw::{Draw, Title};
-use dp_plain::{BoardView, PlainBoard};
-use dp_replay::{act_of, is_command, plain_replay};
+use dp_plain::BoardView;
+use dp_plain_replay::plain_replay;
+use dp_replay::{act_of, is_command};
 use dp_steps::Steps;
 use std::alloc::Global;
 use std::marker::Brand;

@@ -4,8 +4,8 @@ ghost use Rattle.std.specs.Prelude.{◌≡◌, ◌<◌};
 
 use dp_board::Board;
 use dp_canvas::Canvas;
+use dp_layered::PlainBoard;
 use dp_msg_draw::{Draw, TileContent, TilePixel, TilePixels, Title, same_draw};
-use dp_plain::PlainBoard;
 use dp_snap::snapshot;
 use dp_steps::Steps;
 use std::alloc::Global;

@@ -12,10 +12,10 @@ use Rattle.dp_keeper.specs.declared.row.Row.{Row}
 use Rattle.dp_session.specs.Resuming.{resumed}
 use Rattle.dp_words.specs.declared.command_line.CommandLine.{CommandLine}
 use Rattle.dp_words.specs.declared.command_line.CommandLine.TheVariants.{Join}
-use Rattle.dp_commands.specs.declared.ending.Ending.{Ending}
+use Rattle.dp_endings.specs.declared.ending.Ending.{Ending}
 use Rattle.dp_commands.specs.Commands.{Asks}
-use Rattle.dp_commands.specs.Endings.{Effects, Kept, Stores, Streams, StoreStays, Wires, effects}
-use Rattle.dp_commands.specs.Endings.{stores}
+use Rattle.dp_commands.specs.Effects.{Effects, Kept, Stores, Streams, StoreStays, Wires, effects}
+use Rattle.dp_commands.specs.Effects.{stores}
 use Rattle.dp_commands.specs.Kinds.{NothingRuns, EndsCommand, EndsWords}
 
 -- what the command that the words ask for leaves

@@ -23,7 +23,7 @@ use Rattle.dp_world.specs.RunEnds.{WorldLeaves, lines_end_of}
 use Rattle.dp_world.specs.Schedule.{WorldComesTo}
 use Rattle.dp_drill.specs.Leaves.{WritesText}
 use Rattle.dp_drill.specs.Summary.{drill_text}
-use Rattle.dp_commands.specs.Answer.{answer_for}
+use Rattle.dp_endings.specs.Answer.{answer_for}
 use Rattle.dp_commands.specs.Runs.{IsReadWhole, IsLocalRun, IsUnfailed, drill_run, picture_run}
 use Rattle.dp_commands.specs.Runs.{run_of, world_run}
 

@@ -5,9 +5,9 @@ use Rattle.dp_joining.specs.Outcomes.{JoinComesTo, JoinOutcome}
 use Rattle.dp_wire.specs.Links.{Links}
 use Rattle.dp_words.specs.declared.command_line.CommandLine.{CommandLine}
 use Rattle.dp_words.specs.declared.command_line.CommandLine.TheVariants.{Local, Join, Listen}
-use Rattle.dp_commands.specs.Answer.{Answer, answer_for, no_link_answer, usage_answer}
+use Rattle.dp_endings.specs.Answer.{Answer, answer_for, no_link_answer, usage_answer}
 use Rattle.dp_commands.specs.Commands.{Asks, HasLink, IsCommand}
-use Rattle.dp_commands.specs.Endings.{Wires}
+use Rattle.dp_commands.specs.Effects.{Wires}
 use Rattle.dp_commands.specs.Runs.{run_of}
 
 -- The answer that the command is due for an input of these bytes, and a link that gives these

@@ -5,7 +5,7 @@ use Rattle.dp_io.specs.Faults.{Rose}
 use Rattle.dp_joining.specs.Runs.{Returns}
 use Rattle.dp_wire.specs.Links.{WhereKnown}
 use Rattle.dp_commands.specs.Commands.{HasLink, HasWires}
-use Rattle.dp_commands.specs.Endings.{Wires}
+use Rattle.dp_commands.specs.Effects.{Wires}
 
 -- a link of the wire was handed out and handed back, and its source or its sink failed
 pub record LinkFailed {W R T : Type 0} (see : Wires W R T) (wire now : W) : Type 0 where

@@ -2,11 +2,11 @@
 use Rattle.std.specs.Prelude.{◌≡◌, ℕ, ◌⊎◌, List, ◌∷◌, Option}
 use Rattle.dp_joining.specs.Runs.{Ends, RunLeaves}
 use Rattle.dp_lines.specs.declared.run_end.RunEnd.{RunEnd}
-use Rattle.dp_commands.specs.declared.ending.Ending.{Ending}
-use Rattle.dp_commands.specs.declared.ending.Ending.TheVariants.{NoWords, Run}
-use Rattle.dp_commands.specs.Answer.{SaysLine}
-use Rattle.dp_commands.specs.Endings.{Effects, NothingIsDone, KeepsNothing, Streams, Wires, code_of}
-use Rattle.dp_commands.specs.Endings.{ending_line}
+use Rattle.dp_endings.specs.declared.ending.Ending.{Ending}
+use Rattle.dp_endings.specs.declared.ending.Ending.TheVariants.{NoWords, Run}
+use Rattle.dp_endings.specs.Answer.{SaysLine}
+use Rattle.dp_commands.specs.Effects.{Effects, NothingIsDone, KeepsNothing, Streams, Wires}
+use Rattle.dp_endings.specs.Endings.{code_of, ending_line}
 
 -- the streams as a run over a link sees them
 abbrev pub ends_of : Streams → Ends

@@ -5,11 +5,11 @@ use Rattle.dp_lines.specs.declared.run_end.RunEnd.{RunEnd}
 use Rattle.dp_lines.specs.RunEnds.{FaultMatchesEnd}
 use Rattle.dp_words.specs.declared.command_line.CommandLine.{CommandLine}
 use Rattle.dp_words.specs.declared.command_line.CommandLine.TheVariants.{Local, Join, Listen}
-use Rattle.dp_commands.specs.declared.ending.Ending.{Ending}
-use Rattle.dp_commands.specs.declared.ending.Ending.TheVariants.{Usage, NoLink, NoWords, Run}
-use Rattle.dp_commands.specs.declared.ending.Ending.TheVariants.{StoreFault, BadRow}
+use Rattle.dp_endings.specs.declared.ending.Ending.{Ending}
+use Rattle.dp_endings.specs.declared.ending.Ending.TheVariants.{Usage, NoLink, NoWords, Run}
+use Rattle.dp_endings.specs.declared.ending.Ending.TheVariants.{StoreFault, BadRow}
 use Rattle.dp_commands.specs.Commands.{AskAndLack, Asks, IsCommand, LacksWires}
-use Rattle.dp_commands.specs.Endings.{Effects, NothingIsDone, StaysLocal, Wires}
+use Rattle.dp_commands.specs.Effects.{Effects, NothingIsDone, StaysLocal, Wires}
 use Rattle.dp_commands.specs.Joins.{JoinsOn}
 use Rattle.dp_commands.specs.Runs as runs
 use Rattle.dp_commands.specs.Runs.{run_of}

@@ -1,7 +1,6 @@
-pub mod Answer
 pub mod Commands
 pub mod Due
-pub mod Endings
+pub mod Effects
 pub mod Faults
 pub mod Joins
 pub mod Kinds

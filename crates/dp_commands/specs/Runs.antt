@@ -21,7 +21,7 @@ use Rattle.dp_words.specs.declared.command_line.LocalCommand.TheVariants.{Replay
 use Rattle.dp_words.specs.declared.command_line.LocalCommand.TheVariants.{Drill}
 use Rattle.dp_world.specs.RunEnds.{WorldLeaves, lines_end_of}
 use Rattle.dp_world.specs.Schedule.{WorldComesTo}
-use Rattle.dp_commands.specs.Answer.{Answer, answer_for}
+use Rattle.dp_endings.specs.Answer.{Answer, answer_for}
 
 -- A command on an input and an output: the answer that an input of these bytes is due, and what a
 -- run with this end leaves. Last, whether it reads its input to the end.

@@ -9,11 +9,12 @@ use Rattle.dp_session.specs.declared.resume.ResumeFault.TheVariants as fault
 use Rattle.dp_session.specs.Resuming.{resumed, IsBad, CountsFault}
 use Rattle.dp_crew.specs.Runs.{most_links}
 use Rattle.dp_serve.specs.Closings.{ServesOn}
-use Rattle.dp_commands.specs.declared.ending.Ending.{Ending}
-use Rattle.dp_commands.specs.declared.ending.Ending.TheVariants.{NoWords, Run, StoreFault, BadRow}
-use Rattle.dp_commands.specs.Answer.{SaysLine}
-use Rattle.dp_commands.specs.Endings.{Effects, NothingIsDone, StaysLocal, Untouched, Wires, code_of}
-use Rattle.dp_commands.specs.Endings.{ending_line, served_wires}
+use Rattle.dp_endings.specs.declared.ending.Ending.{Ending}
+use Rattle.dp_endings.specs.declared.ending.Ending.TheVariants.{NoWords, Run, StoreFault, BadRow}
+use Rattle.dp_endings.specs.Answer.{SaysLine}
+use Rattle.dp_commands.specs.Effects.{Effects, NothingIsDone, StaysLocal, Untouched, Wires}
+use Rattle.dp_commands.specs.Effects.{served_wires}
+use Rattle.dp_endings.specs.Endings.{code_of, ending_line}
 
 -- how a server ends: if memory ran out, else if the store failed, else if a wire failed
 abbrev pub server_end : Bool → Bool → Bool → Ending

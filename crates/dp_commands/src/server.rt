@@ -3,14 +3,14 @@
 ghost use Rattle.std.specs.Prelude.{◌≡◌, ◌≢◌, ◌≤◌, ℕ, List, length};
 ghost use Rattle.dp_words.specs.declared.command_line.CommandLine.TheVariants.{Listen};
 ghost use Rattle.dp_words.specs.declared.command_line.Service.{Service};
-ghost use Rattle.dp_commands.specs.Endings.{Streams, Untouched, effects, kept, stores, wire_seen};
+ghost use Rattle.dp_commands.specs.Effects.{Streams, Untouched, effects, kept, stores, wire_seen};
 ghost use Rattle.dp_commands.specs.Kinds.{EndsCommand};
 ghost use Rattle.dp_commands.specs.Servers.{end_of_fault, server_end};
 
-use crate::ending::Ending;
 use crate::host::Resources;
 use crate::running::Ran;
 use dp_any_session::AnySession;
+use dp_endings::Ending;
 use dp_keeper::Keeper;
 use dp_lines::RunEnd;
 use dp_serve::{Served, serve};

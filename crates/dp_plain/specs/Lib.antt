@@ -2,6 +2,5 @@ pub mod Board
 pub mod Commands
 pub mod Contents
 pub mod Weights
-pub mod Moves
 pub mod View
 pub mod Picture

@@ -17,9 +17,10 @@ ghost use Rattle.dp_snap.specs.Snapshot.{snapshot};
 ghost use Rattle.dp_snap.specs.Spelled.{IsSpelled};
 
 use dp_board::{Board as Drawn, prefixes_without_points};
+use dp_layered::{PlainBoard, PlainPixels};
 use dp_layers::{listed_modes, trees_stay_trees};
 use dp_msg_draw::Draw;
-use dp_plain::{PlainBoard, PlainPixels, spelled_commands_keep_pixels};
+use dp_plain::spelled_commands_keep_pixels;
 
 /// On the empty board, a snapshot of a board that has pixels gives that board: drawn one command
 /// after the other, and in the replay of each history that has its commands in order and no point.

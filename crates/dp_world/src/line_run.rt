@@ -20,9 +20,10 @@ ghost use Rattle.dp_world.specs.Progress.{IsWorldLineRefused};
 
 use dp_io::{Sink, put_all};
 use dp_lines::Line;
+use dp_printing::show;
 use dp_schedule::{Action, CanvasKind, ReportLine, one_action, read_action};
 use dp_script::{LineMachine, Undone};
-use dp_showing::{Shown, show};
+use dp_showing::Shown;
 use dp_shown::{ClientBoard, PictureEnd};
 use dp_sim::World;
 use dp_steps::Steps;

@@ -1,6 +1,6 @@
 use Rattle.std.proofs.Common.{◌≡◌, ℕ, ◌∙◌, ap, sym, length}
 use Rattle.std.specs.List.{flat_map}
-use Rattle.dp_showing.proofs.Pieces.{appends_is, prefix_is}
+use Rattle.dp_printing.proofs.Pieces.{appends_is, prefix_is}
 use Rattle.dp_showing.specs.Resets.{client_reset}
 use Rattle.dp_snap.specs.Resets.{reset_messages}
 use Rattle.dp_snap.specs.Snapshot.{snapshot}

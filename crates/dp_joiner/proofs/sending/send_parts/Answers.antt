@@ -2,7 +2,7 @@ use Rattle.std.proofs.Common.{ℕ, ◌∙◌, arith, subst}
 use Rattle.std.proofs.lemmas.Result.{err_from_is_err_and}
 use Rattle.dp_msg_draw.specs.declared.draw.Draw.{Draw}
 use Rattle.dp_messages.specs.declared.message.Msg.TheVariants as msg
-use Rattle.dp_showing.proofs.Pieces.{written_more, written_part}
+use Rattle.dp_printing.proofs.Pieces.{written_more, written_part}
 use Rattle.dp_joiner.specs.Joining.{sent_by}
 use Rattle.dp_joiner.specs.Steps.{FaultMatchesWriting}
 use Rattle.dp_joiner.proofs.sending.send_parts.Goals as goal

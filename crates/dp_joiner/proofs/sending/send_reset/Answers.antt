@@ -4,7 +4,7 @@ use Rattle.dp_io.proofs.Prefixes.{grows_after, grows_within}
 use Rattle.dp_msg_draw.specs.declared.draw.Draw.{Draw}
 use Rattle.dp_msg_meta.specs.declared.message.Control.TheVariants as control
 use Rattle.dp_messages.specs.declared.message.Msg.TheVariants as msg
-use Rattle.dp_showing.proofs.Pieces.{prefix_is, written_both, written_is}
+use Rattle.dp_printing.proofs.Pieces.{prefix_is, written_both, written_is}
 use Rattle.dp_joiner.specs.Joining.{sent_by}
 use Rattle.dp_snap.specs.Resets.{reset_messages}
 use Rattle.dp_joiner.proofs.Resets.{reset_bytes}

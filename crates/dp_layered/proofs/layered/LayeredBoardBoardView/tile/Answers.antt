@@ -1,0 +1,39 @@
+use Rattle.std.proofs.Common.{◌≡◌, ◌∙◌, ap, sym, subst, true}
+use Rattle.std.proofs.lemmas.Bool.{false≢true}
+use Rattle.dp_layers.specs.Layers.{is_paint_row}
+use Rattle.dp_layers.specs.Rows.{layers_of}
+use Rattle.dp_pixels.specs.Tiles.{ShowsTile}
+use Rattle.dp_plain.specs.Board.{Board}
+use Rattle.dp_plain.specs.Picture.{pixels_of}
+use Rattle.dp_plain.proofs.Holds.{fit_found}
+use Rattle.dp_layered.proofs.Views.{layers_seen, pixels_seen}
+use Rattle.dp_layered.proofs.layered.LayeredBoardBoardView.tile.Goals as goal
+
+pub tile-requires-clause-fits : goal.tile-requires-clause-fits
+tile-requires-clause-fits g c =
+    let inside = c.self.inside in
+    fit_found (g.C.LayerPixels.fits inside.width inside.height) inside.tree c.args.id
+    c.in-Some.content.now
+    c.self.invariant.each (sym c.in-Some.ensures.value)
+
+pub returns-in-Some : goal.returns-in-Some
+returns-in-Some g c =
+    let inside = c.self.inside in
+    subst
+    (λ (board : Board). ShowsTile board.width board.height (pixels_of board c.args.id) c.args.col
+    c.args.row c.tile.result c.tile.new.buffer) c.self.view_is
+    (subst (λ pixels. ShowsTile inside.width inside.height pixels c.args.col c.args.row
+    c.tile.result c.tile.new.buffer)
+    (sym
+    (pixels_seen (g.C.LayerPixels.pixels inside.width inside.height) inside.tree c.args.id
+    c.in-Some.content.now (sym c.in-Some.ensures.value))) c.tile.ensures)
+
+pub returns-in-None : goal.returns-in-None
+returns-in-None g c =
+    let inside = c.self.inside in
+    let paint : is_paint_row (layers_of inside.tree) c.args.id ≡ true =
+    ap (λ layers. is_paint_row layers c.args.id)
+    (sym (layers_seen (g.C.LayerPixels.pixels inside.width inside.height) inside.tree))
+    ∙ subst (λ (board : Board). is_paint_row (layers_of board.rows) c.args.id ≡ true)
+    (sym c.self.view_is) c.requires.paint in
+    absurd (false≢true (c.in-None.ensures.paint ∙ paint))
