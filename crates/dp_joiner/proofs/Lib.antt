@@ -8,3 +8,4 @@ pub mod Acting
 pub mod Welcoming
 pub mod Prefixes
 pub mod Unique
+pub mod GoingOn
