@@ -1,7 +1,7 @@
 //! The client.
 
-ghost use Rattle.std.specs.Prelude.{◌≡◌, ℕ, ◌-◌, ◌^◌, ◌<◌, ◌≤◌, length, map, List, [], ◌∷◌, ◌++◌, Some};
-ghost use Rattle.std.specs.Prelude.{take, None, IfOk, OnOk, OnErr, true};
+ghost use Rattle.std.specs.Prelude.{◌≡◌, ℕ, ◌-◌, ◌^◌, ◌<◌, ◌≤◌, length, map, List};
+ghost use Rattle.std.specs.Prelude.{[], ◌∷◌, ◌++◌, take, Some, None, IfOk, OnOk, OnErr, true};
 ghost use Rattle.dp_board.specs.Counts.{CountsFew};
 ghost use Rattle.dp_client.specs.Client.{answered, welcomed, own_of, last_before};
 ghost use Rattle.dp_client.specs.Client.{is_own_answer, said, took};
@@ -34,7 +34,7 @@ use std::marker::Model;
 use std::sync::ledger::Ledger;
 
 /// Where an entry stands that was taken, and the epoch that is to be acknowledged.
-#[derive(Clone, Copy, Debug, PartialEq, Eq)]
+#[derive(Clone, Copy)]
 pub struct Taken {
     /// The epoch to be acknowledged, if the entry opened one.
     pub ack: Option<u32>,

@@ -37,10 +37,9 @@ use std::sync::ledger::Ledger;
 const LEAVING: u8 = 0;
 
 /// A client over a link, of which the source and the sink are its own. Contracts see what the
-/// link's streams show.
+/// link's streams show. It can't be dropped: `into_link` gives the link back.
 ///
 /// The rule: docs/protocol.md, "Joining".
-#[derive(Drop)]
 pub struct Joiner<B: ClientBoard, R: Source, S: Sink> {
     alloc: Global,
     client: Client<B>,
@@ -257,9 +256,9 @@ impl<B: ClientBoard, R: Source, S: Sink> Joiner<B, R, S> {
         print_chats(self.alloc, &self.chats, output)
     }
 
-    /// Says that the client leaves, by a Disconnect. How the run ends: with `Done`, with `LinkFault`
-    /// if the link failed, or with `Memory` if memory ran out. Of the Disconnect a prefix was written
-    /// then.
+    /// Says that the client leaves, by a Disconnect. How the run ends: with `Done`, with
+    /// `LinkFault` if the link failed, or with `Memory` if memory ran out. Of the Disconnect a
+    /// prefix was written then.
     pub fn farewell(&mut self) -> RunEnd
         ensures says { SaysFarewell self.old.written self.new.written
             self.old.write_faults self.new.write_faults self.old.client.user result }

@@ -1,5 +1,4 @@
-//! A client over a link: it greets the server, does what one line after the other asks for, and says
-//! that it leaves.
+//! A client over a link: it greets the server, does what a line asks for, and says that it leaves.
 //!
 //! The rule: docs/protocol.md, "Joining".
 #![tactic(auto)]

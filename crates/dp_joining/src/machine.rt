@@ -10,7 +10,6 @@ use dp_steps::Steps;
 use std::sync::ledger::Ledger;
 
 /// The machine of a script: a client over a link does its lines.
-#[derive(Drop)]
 pub(crate) struct JoinMachine<B: ClientBoard, R: Source, S: Sink> {
     pub joiner: Joiner<B, R, S>,
 }
