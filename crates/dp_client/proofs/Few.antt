@@ -9,17 +9,17 @@ use Rattle.dp_messages.specs.declared.message.Msg.TheVariants as msg
 use Rattle.dp_messages.specs.Properties.{command_of, marked}
 use Rattle.dp_messages.specs.declared.message.Msg.{Msg}
 use Rattle.dp_board.specs.declared.act.Act.{Act}
-use Rattle.dp_board.specs.declared.act.Act.TheVariants.{Other}
+use Rattle.dp_board.specs.declared.act.UserAct.{UserAct}
 use Rattle.dp_board.specs.Commands as strokes
 use Rattle.dp_board.specs.Counts.{CountsFew}
 use Rattle.dp_board.specs.Strokes.{moved_by}
 use Rattle.dp_fork.specs.declared.own.Own.{Own}
 use Rattle.dp_fork.specs.declared.own.Own.TheVariants.{Echo, Stranger}
 use Rattle.dp_fork.specs.Fork.{commands_in, is_apart}
-use Rattle.dp_replay.specs.Replay.{act_of, act_of_message, undo_depth, user_act_of}
+use Rattle.dp_replay.specs.Replay.{act_of_message, undo_depth, user_act_of}
 use Rattle.dp_screen.specs.Due as screen
 use Rattle.dp_client.specs.Client.{State, own_of}
-use Rattle.dp_client.specs.Due.{due_as, due_at, due_on, entry_due, said_due}
+use Rattle.dp_client.specs.Due.{due_at, due_on, entry_due, said_due}
 use Rattle.dp_client.proofs.Drawing.{command_same, commands_same}
 
 -- a mark draws no more than another entry may
@@ -80,37 +80,21 @@ module _ (weight : Draw → ℕ) (draws draws' tiles tiles' : ℕ) where
       subst (λ (xs : List Draw). CountsFew weight xs draws draws' tiles tiles')
       (ap (λ (a : Act Draw). strokes.command_of a true) is ∙ command_same user m) few
 
-  -- what is drawn of an entry that is this to the fork
-  pub took_counts : (apart : Draw → Draw → Bool) (s : State) (entry : Entry) (own : Own)
-      (said : List (Act Draw)) → said ≡ map (act_of_message s.user) s.fork
-      → CountsFew weight (screen.due apart undo_depth (map user_act_of s.taken)
-      (user_act_of entry) own said) draws draws' tiles tiles'
-      → CountsFew weight (due_as own apart s entry) draws draws' tiles tiles'
-  took_counts apart s entry own said pending few =
-      subst (λ (xs : List Draw). CountsFew weight xs draws draws' tiles tiles')
-      (ap (λ (xs : List (Act Draw)). screen.due apart undo_depth (map user_act_of s.taken)
-      (user_act_of entry) own xs) pending) few
-
-  -- what is drawn of one that is no mark
-  pub other_counts : (apart : Draw → Draw → Bool) (s : State) (entry : Entry) (own : Own)
-      → marked entry.msg ≡ None → own ≡ own_of s entry
-      → CountsFew weight (due_as own apart s entry) draws draws' tiles tiles'
+  -- what is drawn of an entry that is taken
+  pub took_counts : (apart : Draw → Draw → Bool) (s : State) (entry : Entry) (a : UserAct Draw)
+      (own : Own) (said : List (Act Draw)) → marked entry.msg ≡ None → a ≡ user_act_of entry
+      → own ≡ own_of s entry → said ≡ map (act_of_message s.user) s.fork
+      → CountsFew weight (screen.due apart undo_depth (map user_act_of s.taken) a own said) draws
+      draws' tiles tiles'
       → CountsFew weight (due_on apart s entry) draws draws' tiles tiles'
-  other_counts apart s entry own none what few =
+  took_counts apart s entry a own said none is what pending few =
+      let acts : List (UserAct Draw) = map user_act_of s.taken in
       subst (λ (xs : List Draw). CountsFew weight xs draws draws' tiles tiles')
-      (ap (λ (o : Own). due_as o apart s entry) what
+      (ap (λ (x : UserAct Draw). screen.due apart undo_depth acts x own said) is
+      ∙ ap (λ (o : Own). screen.due apart undo_depth acts (user_act_of entry) o said) what
+      ∙ ap (λ (xs : List (Act Draw)). screen.due apart undo_depth acts (user_act_of entry)
+      (own_of s entry) xs) pending
       ∙ sym (ap (λ (o : Option ℕ). due_at o apart s entry) none)) few
-
-  -- what is drawn of a stranger's that does nothing to strokes: nothing
-  pub still_counts : (apart : Draw → Draw → Bool) (s : State) (entry : Entry)
-      → act_of entry ≡ Other
-      → CountsFew weight (due_as Stranger apart s entry) draws draws' tiles tiles'
-      → CountsFew weight [] draws draws' tiles tiles'
-  still_counts apart s entry is few =
-      subst (λ (xs : List Draw). CountsFew weight xs draws draws' tiles tiles')
-      (ap (λ (act : Act Draw). screen.due apart undo_depth (map user_act_of s.taken)
-      (record { user = entry.user; act = act }) Stranger (map (act_of_message s.user) s.fork))
-      is) few
 
   -- a mark draws nothing
   pub mark_counts : (apart : Draw → Draw → Bool) (s : State) (entry : Entry) (epoch : ℕ)

@@ -8,7 +8,6 @@ use Rattle.dp_messages.specs.declared.message.Msg.TheVariants as msg
 use Rattle.dp_messages.specs.Properties.{command_of, marked}
 use Rattle.dp_msg_draw.specs.declared.draw.Draw.{Draw}
 use Rattle.dp_board.specs.Strokes.{moved_by}
-use Rattle.dp_fork.specs.declared.own.Own.{Own}
 use Rattle.dp_fork.specs.declared.own.Own.TheVariants.{Echo, Stranger}
 use Rattle.dp_fork.specs.Fork.{is_apart}
 use Rattle.dp_pixels.specs.Feet.{are_apart}
@@ -16,17 +15,13 @@ use Rattle.dp_replay.specs.Replay.{act_of_message, undo_depth, user_act_of}
 use Rattle.dp_screen.specs.Due as screen
 use Rattle.dp_client.specs.Client.{State, own_of}
 
--- What an entry that is this to the fork may draw on both boards, if this says which commands are
--- apart. On the confirmed one it is its own command, or if it moves a group those from that group's
--- point on. On that of the fork it is what it has drawn anew.
-abbrev pub due_as : Own → (Draw → Draw → Bool) → State → Entry → List Draw
-due_as own apart s entry =
-    screen.due apart undo_depth (map user_act_of s.taken) (user_act_of entry) own
-    (map (act_of_message s.user) s.fork)
-
--- what an entry that is no mark may draw
+-- What an entry that is no mark may draw on both boards, if this says which commands are apart. On
+-- the confirmed one it is its own command, or if it moves a group those from that group's point on.
+-- On that of the fork it is what it has drawn anew.
 abbrev pub entry_due : (Draw → Draw → Bool) → State → Entry → List Draw
-entry_due apart s entry = due_as (own_of s entry) apart s entry
+entry_due apart s entry =
+    screen.due apart undo_depth (map user_act_of s.taken) (user_act_of entry) (own_of s entry)
+    (map (act_of_message s.user) s.fork)
 
 -- a mark draws nothing
 abbrev pub due_at : Option ℕ → (Draw → Draw → Bool) → State → Entry → List Draw

@@ -1,27 +1,23 @@
 //! The client.
 
-ghost use Rattle.std.specs.Prelude.{◌≡◌, ℕ, ◌-◌, ◌^◌, ◌<◌, ◌≤◌, length, map, List};
-ghost use Rattle.std.specs.Prelude.{[], ◌∷◌, ◌++◌, take, Some, None, IfOk, OnOk, OnErr, true};
+ghost use Rattle.std.specs.Prelude.{◌≡◌, ◌-◌, ◌^◌, ◌<◌, ◌≤◌, length, map, [], ◌∷◌, Some, None};
+ghost use Rattle.std.specs.Prelude.{take, IfOk, OnOk, OnErr, true};
 ghost use Rattle.dp_board.specs.Counts.{CountsFew};
 ghost use Rattle.dp_client.specs.Client.{answered, welcomed, own_of, last_before};
 ghost use Rattle.dp_client.specs.Client.{is_own_answer, said, took};
 ghost use Rattle.dp_client.specs.Client.{taken_of, confirmed_on, view_on, fork_after};
 ghost use Rattle.dp_client.specs.Taking.{with_mark};
 ghost use Rattle.dp_board.specs.declared.act.Act.TheVariants.{Other};
-ghost use Rattle.dp_board.specs.declared.act.UserAct.{UserAct as ByUser};
-ghost use Rattle.dp_client.specs.Due.{due_as, due_on, said_due};
-ghost use Rattle.dp_fork.specs.Fork.{Answers, left_by};
+ghost use Rattle.dp_client.specs.Due.{due_on, said_due};
+ghost use Rattle.dp_fork.specs.Fork.{Answers};
 ghost use Rattle.dp_fork.specs.declared.own.Own.TheVariants.{Echo};
 ghost use Rattle.dp_messages.specs.Messages.{kind_of};
 ghost use Rattle.dp_messages.specs.Properties.{marked};
-ghost use Rattle.dp_msg_draw.specs.declared.draw.Draw.{Draw as Command};
-ghost use Rattle.dp_replay.specs.Replay.{act_of, act_of_message, undo_depth, user_act_of};
-ghost use Rattle.dp_screen.specs.Due.{CountsOnBoth};
-ghost use Rattle.dp_screen.specs.Screen.{IsScreenOf, ScreenGoesOn};
+ghost use Rattle.dp_replay.specs.Replay.{act_of, act_of_message};
 
 use crate::answers::{carried_in, may_answer};
 use dp_blank::BlankBoard;
-use dp_board::Board;
+use dp_board::{Act, Board};
 use dp_fork::Own;
 use dp_messages::{Entry, Msg, same};
 use dp_msg_draw::Draw;
@@ -34,7 +30,7 @@ use std::marker::Model;
 use std::sync::ledger::Ledger;
 
 /// Where an entry stands that was taken, and the epoch that is to be acknowledged.
-#[derive(Clone, Copy)]
+#[derive(Clone, Copy, Debug, PartialEq, Eq)]
 pub struct Taken {
     /// The epoch to be acknowledged, if the entry opened one.
     pub ack: Option<u32>,
@@ -46,6 +42,7 @@ pub struct Taken {
 
 /// A client, which keeps its confirmed canvas and its view drawn on boards. It is seen as its
 /// `State`.
+#[derive(Drop)]
 pub struct Client<B: Board<Op = Draw> + BlankBoard> {
     user: u8,
     joined_epoch: u32,
@@ -76,22 +73,6 @@ impl<B: Board<Op = Draw> + BlankBoard> Model for Client<B> {
         HasDrawn B.is_board B.drawn B.blank c.user c.taken.items c.fork.items c.screen };
 }
 
-// It is written out, so that it is only called where a client is let go. A derived one would be a
-// part of each such function, and proved there.
-impl<B: Board<Op = Draw> + BlankBoard> Drop for Client<B> {
-    fn drop(self) {
-        let Client {
-            taken,
-            fork,
-            screen,
-            ..
-        } = self;
-        drop(taken);
-        drop(fork);
-        drop(screen);
-    }
-}
-
 /// What an own answer is to a fork.
 fn answered(fork: &VecDeque<Msg>, msg: &Msg) -> Own
     ensures value { result ≡ answered fork.now.items msg.now }
@@ -116,74 +97,6 @@ fn drop_answered(fork: &mut VecDeque<Msg>, own: Own)
         }
         Own::Lost => fork.clear(),
     }
-}
-
-/// Says what the message does on a screen.
-fn say_on<B: Board<Op = Draw>, D: Ledger, T: Ledger>(
-    screen: &mut Screen<B>,
-    user: u8,
-    msg: &Msg,
-    draws: &mut Steps<D>,
-    tiles: &mut Steps<T>,
-) -> Result<(), AllocError>
-    ensures screen { OnOk result ((blank : B) (depth : ℕ) (acts : List (ByUser Command))
-        → IsScreenOf B.is_board B.drawn blank depth acts screen.old
-        → IsScreenOf B.is_board B.drawn blank depth acts screen.new) }
-    ensures pending { OnOk result
-        (screen.new.fork.acts ≡ screen.old.fork.acts ++ act_of_message user msg.now ∷ []) }
-    ensures err { OnErr result (screen.new ≡ screen.old) }
-    ensures counts { CountsFew B.weight (said_due msg.now) draws.old draws.new tiles.old
-        tiles.new }
-{
-    let act = act_of_message(user, msg)?;
-    screen.say(act, draws, tiles)
-}
-
-/// Has a screen take what the entry does, which is this to the fork.
-fn take_on<B: Board<Op = Draw>, D: Ledger, T: Ledger>(
-    screen: &mut Screen<B>,
-    entry: &Entry,
-    own: Own,
-    draws: &mut Steps<D>,
-    tiles: &mut Steps<T>,
-) -> Result<(), AllocError>
-    ensures screen { OnOk result
-        (ScreenGoesOn B.is_board B.drawn (user_act_of entry.now) own screen.old screen.new) }
-    ensures pending { OnOk result (screen.new.fork.acts ≡ left_by own screen.old.fork.acts) }
-    ensures err { OnErr result (screen.new ≡ screen.old) }
-    ensures counts { CountsOnBoth B.is_board B.drawn B.weight B.are_apart (user_act_of entry.now)
-        own screen.old draws.old draws.new tiles.old tiles.new }
-{
-    let act = act_of(entry)?;
-    let taken = screen.take(entry.user, &act, own, draws, tiles);
-    drop(act);
-    taken
-}
-
-/// Has a screen begin anew with a blank board, at a mark of this user.
-fn begin_on<B: Board<Op = Draw> + BlankBoard, D: Ledger, T: Ledger>(
-    screen: &mut Screen<B>,
-    alloc: Global,
-    user: u8,
-    draws: &mut Steps<D>,
-    tiles: &mut Steps<T>,
-) -> Result<(), AllocError>
-    ensures screen { OnOk result (IsScreenOf B.is_board B.drawn B.blank undo_depth
-        ((record { user = user; act = Other }) ∷ []) screen.new) }
-    ensures pending { OnOk result (screen.new.fork.acts ≡ []) }
-    ensures err { OnErr result (screen.new ≡ screen.old) }
-    ensures no_draw { draws.new ≡ draws.old }
-    ensures no_tile { tiles.new ≡ tiles.old }
-{
-    let blank = B::blank(alloc)?;
-    screen.begin_anew(alloc, blank, UNDO_DEPTH, user, draws, tiles)
-}
-
-/// A copy of the entry alone.
-fn alone(alloc: Global, entry: &Entry) -> Result<Vec<Entry>, AllocError>
-    ensures { IfOk result (λ taken. taken.items ≡ entry.now ∷ []) }
-{
-    vec![in alloc; entry.copy()?]
 }
 
 impl<B: Board<Op = Draw> + BlankBoard> Client<B> {
@@ -265,17 +178,13 @@ impl<B: Board<Op = Draw> + BlankBoard> Client<B> {
         ensures counts { CountsFew B.weight (said_due msg.now) draws.old draws.new tiles.old
             tiles.new }
     {
-        self.fork.reserve(1)?;
+        let act = act_of_message(self.user, msg)?;
         let copy = msg.copy()?;
-        match say_on(&mut self.screen, self.user, msg, draws, tiles) {
-            Ok(()) => {
-                self.fork.push_back_reserved(copy);
-                Ok(())
-            }
-            Err(full) => {
-                drop(copy);
-                Err(full)
-            }
+        self.fork.reserve(1)?;
+        self.screen.say(act, draws, tiles)?;
+        match self.fork.push_back(copy) {
+            Ok(()) => Ok(()),
+            Err(_) => unreachable!(),
         }
     }
 
@@ -319,46 +228,18 @@ impl<B: Board<Op = Draw> + BlankBoard> Client<B> {
             draws.new tiles.old tiles.new }
     {
         let own = self.own_of(entry);
+        let act = act_of(entry)?;
+        let copy = entry.copy()?;
         let at = self.taken.len() as u32;
-        self.take_as(own, entry, draws, tiles)?;
+        self.taken.reserve(1)?;
+        self.screen.take(entry.user, &act, own, draws, tiles)?;
+        self.taken.push_reserved(copy);
+        drop_answered(&mut self.fork, own);
         Ok(Taken {
             ack: None,
             epoch: self.epoch,
             at,
         })
-    }
-
-    /// Takes an entry of its epoch, which is this to the fork.
-    fn take_as<D: Ledger, T: Ledger>(
-        &mut self,
-        own: Own,
-        entry: &Entry,
-        draws: &mut Steps<D>,
-        tiles: &mut Steps<T>,
-    ) -> Result<(), AllocError>
-        requires { Answers own (act_of entry.now)
-            (map (act_of_message self.old.user) self.old.fork) }
-        ensures ok { OnOk result (self.new ≡ record self.old {
-          taken = self.old.taken ++ entry.now ∷ [];
-          fork = fork_after own self.old.fork;
-        }) }
-        ensures err { OnErr result (self.new ≡ self.old) }
-        ensures counts { CountsFew B.weight (due_as own B.are_apart self.old entry.now) draws.old
-            draws.new tiles.old tiles.new }
-    {
-        self.taken.reserve(1)?;
-        let copy = entry.copy()?;
-        match take_on(&mut self.screen, entry, own, draws, tiles) {
-            Ok(()) => {
-                self.taken.push_reserved(copy);
-                drop_answered(&mut self.fork, own);
-                Ok(())
-            }
-            Err(full) => {
-                drop(copy);
-                Err(full)
-            }
-        }
     }
 
     /// Takes a mark of an epoch.
@@ -404,7 +285,11 @@ impl<B: Board<Op = Draw> + BlankBoard> Client<B> {
         ensures err { OnErr result (self.new ≡ self.old) }
         ensures counts { CountsFew B.weight [] draws.old draws.new tiles.old tiles.new }
     {
-        self.take_as(Own::Stranger, entry, draws, tiles)
+        let taken = vec![in self.alloc; entry.copy()?]?;
+        self.screen
+            .take(entry.user, &Act::Other, Own::Stranger, draws, tiles)?;
+        self.taken = taken;
+        Ok(())
     }
 
     /// Enters an epoch by its mark: what was taken and what was said are let go.
@@ -421,19 +306,15 @@ impl<B: Board<Op = Draw> + BlankBoard> Client<B> {
         ensures no_draw { draws.new ≡ draws.old }
         ensures no_tile { tiles.new ≡ tiles.old }
     {
-        let taken = alone(self.alloc, entry)?;
-        match begin_on(&mut self.screen, self.alloc, entry.user, draws, tiles) {
-            Ok(()) => {
-                self.taken = taken;
-                self.epoch = epoch;
-                self.fork.clear();
-                Ok(())
-            }
-            Err(full) => {
-                drop(taken);
-                Err(full)
-            }
-        }
+        let alloc = self.alloc;
+        let taken = vec![in alloc; entry.copy()?]?;
+        let blank = B::blank(alloc)?;
+        self.screen
+            .begin_anew(alloc, blank, UNDO_DEPTH, entry.user, draws, tiles)?;
+        self.taken = taken;
+        self.epoch = epoch;
+        self.fork.clear();
+        Ok(())
     }
 
     /// Own answers stand after this index.
