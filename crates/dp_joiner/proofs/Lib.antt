@@ -9,3 +9,4 @@ pub mod Welcoming
 pub mod Prefixes
 pub mod Unique
 pub mod GoingOn
+pub mod LinkEnds

@@ -31,7 +31,8 @@ use Rattle.dp_joining.specs.Outcomes.{AllAsk, EndsByLink, EndsByScript}
 use Rattle.dp_joining.specs.Outcomes.{IsJoinStep, JoinComesTo, JoinOutcome, script_outcome}
 use Rattle.dp_joining.specs.Leaves.{DrawsFew}
 use Rattle.dp_joining.proofs.Leaving.{Writes}
-use Rattle.dp_joining.proofs.OneOutcome.{AllLaws, IsClosed, IsEnded, asked_alike, ends_by}
+use Rattle.dp_joiner.proofs.LinkEnds.{IsClosed, IsEnded, ends_by}
+use Rattle.dp_joining.proofs.OneOutcome.{AllLaws, asked_alike}
 use Rattle.dp_joining.proofs.OneOutcome.{first_within, lists_alike, one_outcome}
 use Rattle.dp_joiner.proofs.Prefixes.{IsFirstOf, begin_alike, within_all}
 use Rattle.dp_joiner.proofs.Unique.{joined_closed, joined_goes, joined_waits}
@@ -77,7 +78,7 @@ module _ (laws : AllLaws) (name link : List ℕ) where
       (left : List Entry) → IsFirstOf actions others → BeginsWith link es → BeginsWith link ds
       → joined name others ds ≡ Goes j left → GoesOn (came_to (joined name actions es)) j
   towards_goes actions others es ds j left acts begins begins_too goes =
-      elim (begin_alike laws.frames link es ds begins begins_too) [
+      elim (begin_alike laws.link.frames link es ds begins begins_too) [
         | inl first ↦ joined_within name actions others es ds (Goes j left) acts first goes
         | inr first ↦
             let further = joined_goes name others ds es j left first goes in
@@ -91,14 +92,14 @@ module _ (laws : AllLaws) (name link : List ℕ) where
       → IsClosed link ds why ⊎ IsEnded link ds why → joined name others ds ≡ Waits waiting
       → GoesOn (came_to (joined name actions es)) waiting
   towards_waits actions others es ds waiting why acts begins (inl a) waits =
-      elim (begin_alike laws.frames link es ds begins a.begins) [
+      elim (begin_alike laws.link.frames link es ds begins a.begins) [
         | inl first ↦ joined_within name actions others es ds (Waits waiting) acts first waits
         | inr first ↦ joined_within name actions others es es (Waits waiting) acts (first_self es)
             (joined_closed name others ds es a.closed first ∙ waits)
       ]
   towards_waits actions others es ds waiting why acts begins (inr a) waits =
       joined_within name actions others es ds (Waits waiting) acts
-      (within_all laws.frames link es ds a.end begins a.comes) waits
+      (within_all laws.link.frames link es ds a.end begins a.comes) waits
 
   module _ (input : List ℕ) (begun : List Line) (actions : List JoinAction) (es : List Entry)
       (prefix : AreFirstOf IsJoinStep (seen lines_limit input) begun) (asked : AllAsk begun actions)
