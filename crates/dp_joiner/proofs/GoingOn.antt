@@ -1,6 +1,6 @@
 -- A client that goes on, by more lines and more entries.
-use Rattle.std.proofs.Common.{◌≡◌, inl, inr, ℕ, ◌+◌, ◌-◌, ◌≤◌, ◌<◌, List, [], ◌∷◌, ◌++◌}
-use Rattle.std.proofs.Common.{length, take, drop, refl, sym, ap, ◌∙◌, subst, append_assoc, arith}
+use Rattle.std.proofs.Common.{◌≡◌, inl, inr, ℕ, ◌+◌, ◌-◌, ◌≤◌, ◌<◌, List, [], ◌∷◌, ◌++◌, length}
+use Rattle.std.proofs.Common.{take, drop, refl, sym, ap, ◌∙◌, subst, append_assoc, arith}
 use Rattle.std.proofs.Common.{length-append}
 use Rattle.std.specs.Prelude.{Option, None, Some}
 use Rattle.std.specs.List.{fold}
@@ -14,9 +14,9 @@ use Rattle.dp_schedule.specs.declared.join_action.JoinAction.{JoinAction}
 use Rattle.dp_schedule.specs.declared.join_action.JoinAction.TheVariants.{Say, Take, View}
 use Rattle.dp_schedule.specs.declared.join_action.JoinAction.TheVariants.{Confirmed, Snapshot}
 use Rattle.dp_schedule.specs.declared.join_action.JoinAction.TheVariants.{Reset, Chat}
-use Rattle.dp_joiner.specs.Joining.{Joining, Progress, Waits, acted, after_line, along}
-use Rattle.dp_joiner.specs.Joining.{asked_by, came_to, caller, greeted, joined}
-use Rattle.dp_joiner.specs.Joining.{newcomer, printed, takeable, took_entry}
+use Rattle.dp_joiner.specs.Joining.{Joining, Progress, Waits, acted, after_line, along, asked_by}
+use Rattle.dp_joiner.specs.Joining.{came_to, caller, greeted, joined, newcomer, printed, takeable}
+use Rattle.dp_joiner.specs.Joining.{took_entry}
 use Rattle.dp_joiner.proofs.Along.{along_enough, along_few}
 use Rattle.dp_joiner.proofs.Greeted.{greets}
 use Rattle.dp_joiner.proofs.Prefixes.{IsFirstOf}

@@ -1,7 +1,5 @@
 -- What the ends of one link tell of the lines that wait at them.
-use Rattle.std.proofs.Common.{◌≡◌, ◌⊎◌, inl, inr, ℕ, true, false, List, refl, sym}
-use Rattle.std.proofs.Common.{ap}
-use Rattle.std.proofs.Common.{◌∙◌}
+use Rattle.std.proofs.Common.{◌≡◌, ◌⊎◌, inl, inr, ℕ, true, false, List, refl, sym, ap, ◌∙◌}
 use Rattle.dp_lines.specs.declared.run_end.RunEnd.{RunEnd}
 use Rattle.dp_lines.specs.declared.run_end.RunEnd.TheVariants as run
 use Rattle.dp_messages.specs.declared.message.Entry.{Entry}
@@ -9,11 +7,9 @@ use Rattle.dp_schedule.specs.declared.join_action.JoinAction.{JoinAction}
 use Rattle.dp_joiner.specs.declared.stops.LinkCause.{LinkCause}
 use Rattle.dp_joiner.specs.declared.stops.LinkCause.TheVariants as cause
 use Rattle.dp_joiner.specs.Joining.{Joining, Goes, Waits, is_closed, joined}
-use Rattle.dp_joiner.specs.Links.{BeginsWith, EndsLink}
-use Rattle.dp_joiner.specs.Links.{LinkComesTo}
+use Rattle.dp_joiner.specs.Links.{BeginsWith, EndsLink, LinkComesTo}
 use Rattle.dp_joiner.proofs.Along.{closed-longer}
-use Rattle.dp_joiner.proofs.Prefixes.{Laws, begin_alike}
-use Rattle.dp_joiner.proofs.Prefixes.{within_all}
+use Rattle.dp_joiner.proofs.Prefixes.{Laws, begin_alike, within_all}
 use Rattle.dp_joiner.proofs.Unique.{joined_closed, joined_goes}
 
 -- what the layers below say of a link

@@ -1,6 +1,5 @@
 -- What a link gave, and how it goes on.
-use Rattle.std.proofs.Common.{◌≡◌, inl, inr, ℕ, ◌+◌, ◌<◌, ◌≤◌, true, false, List, [], ◌∷◌}
-use Rattle.std.proofs.Common.{◌++◌}
+use Rattle.std.proofs.Common.{◌≡◌, inl, inr, ℕ, ◌+◌, ◌<◌, ◌≤◌, true, false, List, [], ◌∷◌, ◌++◌}
 use Rattle.std.proofs.Common.{length, refl, sym, ap, ◌∙◌, subst, arith, ◌||◌, if◌then◌else◌}
 use Rattle.std.specs.Prelude.{Bool, Option, IsTrue}
 use Rattle.std.specs.List.{flat_map}
@@ -26,8 +25,7 @@ use Rattle.dp_joiner.specs.JoinStanding.{IsFlaw, StandsOnLink, is_ping}
 use Rattle.dp_joiner.specs.Links.{BeginsWith, EndsLink}
 use Rattle.dp_io.specs.Limits.{stream_limit}
 use Rattle.dp_joiner.specs.Steps.{FaultMatchesReading, HasGiven, GivesEntry, GivesNone, IsReadable}
-use Rattle.dp_joiner.specs.Steps.{ReadsOn}
-use Rattle.dp_joiner.specs.Steps.{ReadsUpTo, Shows, Source}
+use Rattle.dp_joiner.specs.Steps.{ReadsOn, ReadsUpTo, Shows, Source}
 use Rattle.dp_joiner.specs.Stops.{stop_of}
 use Rattle.dp_joiner.proofs.Along.{closed-append, either_false, still-append, takeable-append}
 

@@ -1,7 +1,6 @@
 -- Entries that are taken one after the other.
 use Rattle.std.proofs.Common.{◌≡◌, ℕ, ◌+◌, ◌<◌, ◌≤◌, Bool, true, false, if◌then◌else◌, List, []}
-use Rattle.std.proofs.Common.{◌∷◌}
-use Rattle.std.proofs.Common.{◌++◌, length, refl, sym, ap, ◌∙◌, subst, arith, length-append}
+use Rattle.std.proofs.Common.{◌∷◌, ◌++◌, length, refl, sym, ap, ◌∙◌, subst, arith, length-append}
 use Rattle.std.specs.Prelude.{Option}
 use Rattle.std.specs.List.{fold}
 use Rattle.std.specs.Io.KnownBytes.{Appends}
@@ -17,8 +16,8 @@ use Rattle.dp_joiner.specs.Joining.{Joining, takeable, took_entry}
 use Rattle.dp_joiner.specs.JoinStanding.{is_ping}
 use Rattle.dp_joiner.specs.Links.{BeginsWith}
 use Rattle.dp_joiner.specs.Steps.{Fails, FaultMatchesReading, GivesEntry, GivesNone, Halts}
-use Rattle.dp_joiner.specs.Steps.{IsNoEntry, IsReady, Linked, Moves, Passes, ReadsOn, Seen}
-use Rattle.dp_joiner.specs.Steps.{Shows, Source, Stands, Stops, Wrote, seen}
+use Rattle.dp_joiner.specs.Steps.{IsNoEntry, IsReady, Linked, Moves, Passes, ReadsOn, Seen, Shows}
+use Rattle.dp_joiner.specs.Steps.{Source, Stands, Stops, Wrote, seen}
 use Rattle.dp_joiner.proofs.Along.{takeable-append}
 use Rattle.dp_joiner.proofs.Moving.{fault_matches_from, reading_fault}
 use Rattle.dp_joiner.proofs.Reading.{reads_none, reads_then, reads_twice, stops_here}

@@ -1,6 +1,5 @@
 -- A script and a link come to one outcome.
-use Rattle.std.proofs.Common.{◌≡◌, inl, inr, ℕ, true, false, Bool, ◌||◌, if◌then◌else◌, List}
-use Rattle.std.proofs.Common.{[]}
+use Rattle.std.proofs.Common.{◌≡◌, inl, inr, ℕ, true, false, Bool, ◌||◌, if◌then◌else◌, List, []}
 use Rattle.std.proofs.Common.{◌∷◌, ◌++◌, length, take, drop, refl, sym, ap, ◌∙◌}
 use Rattle.std.specs.Prelude.{Option, Some, None}
 use Rattle.std.specs.Option.{option_map_or}
@@ -8,8 +7,8 @@ use Rattle.std.proofs.lemmas.Bool.{cases_lt}
 use Rattle.dp_messages.specs.declared.message.Entry.{Entry}
 use Rattle.dp_messages.specs.Properties.{is_disconnect}
 use Rattle.dp_schedule.specs.declared.join_action.JoinAction.{JoinAction}
-use Rattle.dp_joiner.specs.Joining.{Joining, Goes, Waits, after_line, along, asked_by}
-use Rattle.dp_joiner.specs.Joining.{caller, greeted, is_closed, joined, takeable}
+use Rattle.dp_joiner.specs.Joining.{Joining, Goes, Waits, after_line, along, asked_by, caller}
+use Rattle.dp_joiner.specs.Joining.{greeted, is_closed, joined, takeable}
 use Rattle.dp_joiner.specs.JoinStanding.{is_ping}
 use Rattle.dp_joiner.proofs.Along.{along_enough, along_few, along_more}
 use Rattle.dp_joiner.proofs.Greeted.{none_greeted}

@@ -1,6 +1,5 @@
 -- How a client greets its server.
-use Rattle.std.proofs.Common.{◌≡◌, inl, ℕ, true, false, Bool, ◌||◌, List, [], ◌∷◌}
-use Rattle.std.proofs.Common.{◌++◌, length}
+use Rattle.std.proofs.Common.{◌≡◌, inl, ℕ, true, false, Bool, ◌||◌, List, [], ◌∷◌, ◌++◌, length}
 use Rattle.std.proofs.Common.{refl, sym, ap, subst, arith, Ok, Err}
 use Rattle.std.specs.Prelude.{Option, Some, None, IfSome, IfOk, IfErr, IsTrue}
 use Rattle.std.specs.declared.result.Result.{Result}
@@ -17,14 +16,11 @@ use Rattle.dp_joiner.specs.declared.stops.JoinStop.{JoinStop}
 use Rattle.dp_joiner.specs.declared.stops.JoinStop.TheVariants.{WriteFault, LinkFault, Memory}
 use Rattle.dp_joiner.specs.declared.stops.JoinStop.TheVariants.{NoEntry}
 use Rattle.dp_joiner.specs.Greetings.{GreetingFails, NoWelcome, Welcomes}
-use Rattle.dp_joiner.specs.Joining.{Joining, Waits, along, caller, greeted, hello_bytes}
-use Rattle.dp_joiner.specs.Joining.{newcomer}
+use Rattle.dp_joiner.specs.Joining.{Joining, Waits, along, caller, greeted, hello_bytes, newcomer}
 use Rattle.dp_joiner.specs.Joining.{takeable}
 use Rattle.dp_joiner.specs.JoinStanding.{StandsOnLink, is_welcome}
 use Rattle.dp_joiner.specs.Links.{BeginsWith}
-use Rattle.dp_joiner.specs.Steps.{FaultMatchesWriting, HasGiven}
-use Rattle.dp_joiner.specs.Steps.{ReadsOn}
-use Rattle.dp_joiner.specs.Steps.{Shows, Source}
+use Rattle.dp_joiner.specs.Steps.{FaultMatchesWriting, HasGiven, ReadsOn, Shows, Source}
 use Rattle.dp_joiner.proofs.Along.{either_false}
 use Rattle.dp_joiner.proofs.Reading.{given_begins}
 

@@ -1,6 +1,6 @@
 -- What was begun is a first part of what is due.
-use Rattle.std.proofs.Common.{◌≡◌, ◌⊎◌, inl, inr, ℕ, ◌+◌, ◌-◌, ◌≤◌, List, [], ◌++◌}
-use Rattle.std.proofs.Common.{length, refl, sym, ap, ◌∙◌, subst, arith}
+use Rattle.std.proofs.Common.{◌≡◌, ◌⊎◌, inl, inr, ℕ, ◌+◌, ◌-◌, ◌≤◌, List, [], ◌++◌, length, refl}
+use Rattle.std.proofs.Common.{sym, ap, ◌∙◌, subst, arith}
 use Rattle.std.specs.Prelude.{Option, None, Some, IfSome}
 use Rattle.std.proofs.lemmas.List.{append-nil}
 use Rattle.dp_io.specs.Streams.{GrowsByPrefix}
@@ -22,18 +22,16 @@ use Rattle.dp_script.specs.Counters.{Counters}
 use Rattle.dp_script.specs.Leaves.{AreFirstOf}
 use Rattle.dp_script.specs.Limits.{lines_limit}
 use Rattle.dp_joiner.specs.declared.stops.LinkCause.{LinkCause}
-use Rattle.dp_joiner.specs.Joining.{Joining, Progress, Goes, Waits}
-use Rattle.dp_joiner.specs.Joining.{came_to, farewell_bytes, joined}
+use Rattle.dp_joiner.specs.Joining.{Joining, Progress, Goes, Waits, came_to, farewell_bytes, joined}
 use Rattle.dp_joining.specs.Leaves.{BeginsDue, GrowsTowards, IsParting, JoinLeaves, Traffic}
-use Rattle.dp_joining.specs.Leaves.{WhereKnown, WritesAll, WritesPart, WritesTaken}
+use Rattle.dp_joining.specs.Leaves.{WhereKnown, WritesAll, WritesPart, WritesTaken, DrawsFew}
 use Rattle.dp_joiner.specs.Links.{BeginsWith}
-use Rattle.dp_joining.specs.Outcomes.{AllAsk, EndsByLink, EndsByScript}
-use Rattle.dp_joining.specs.Outcomes.{IsJoinStep, JoinComesTo, JoinOutcome, script_outcome}
-use Rattle.dp_joining.specs.Leaves.{DrawsFew}
+use Rattle.dp_joining.specs.Outcomes.{AllAsk, EndsByLink, EndsByScript, IsJoinStep, JoinComesTo}
+use Rattle.dp_joining.specs.Outcomes.{JoinOutcome, script_outcome}
 use Rattle.dp_joining.proofs.Leaving.{Writes}
 use Rattle.dp_joiner.proofs.LinkEnds.{IsClosed, IsEnded, ends_by}
-use Rattle.dp_joining.proofs.OneOutcome.{AllLaws, asked_alike}
-use Rattle.dp_joining.proofs.OneOutcome.{first_within, lists_alike, one_outcome}
+use Rattle.dp_joining.proofs.OneOutcome.{AllLaws, asked_alike, first_within, lists_alike}
+use Rattle.dp_joining.proofs.OneOutcome.{one_outcome}
 use Rattle.dp_joiner.proofs.Prefixes.{IsFirstOf, begin_alike, within_all}
 use Rattle.dp_joiner.proofs.Unique.{joined_closed, joined_goes, joined_waits}
 use Rattle.dp_joiner.proofs.GoingOn.{GoesOn, first_self, first_then, first_twice, joined_within}

@@ -1,7 +1,5 @@
 -- Lines that are done one after the other, and the line that ends a run.
-use Rattle.std.proofs.Common.{◌≡◌, inl, inr, ℕ, List, [], ◌∷◌, ◌++◌, refl, sym}
-use Rattle.std.proofs.Common.{ap}
-use Rattle.std.proofs.Common.{◌∙◌, subst}
+use Rattle.std.proofs.Common.{◌≡◌, inl, inr, ℕ, List, [], ◌∷◌, ◌++◌, refl, sym, ap, ◌∙◌, subst}
 use Rattle.dp_io.proofs.Prefixes.{grows_whole}
 use Rattle.dp_lines.specs.declared.line.Line.{Line}
 use Rattle.dp_schedule.specs.declared.join_action.JoinAction.{JoinAction}
@@ -13,8 +11,7 @@ use Rattle.dp_joiner.specs.Joining.{Joining, Waits, after_line, along, came_to, 
 use Rattle.dp_joining.specs.Outcomes.{AllAsk}
 use Rattle.dp_joining.specs.Scripts.{HasDone, HasEnded, at}
 use Rattle.dp_joiner.specs.Steps.{Began, Halts, IsReadable, Passes, Seen, Stands, Stops}
-use Rattle.dp_joiner.proofs.Along.{along_exact, along_next, along_one, along_short}
-use Rattle.dp_joiner.proofs.Along.{takeable-append}
+use Rattle.dp_joiner.proofs.Along.{along_exact, along_next, along_one, along_short, takeable-append}
 use Rattle.dp_joiner.proofs.Reading.{reads_none, reads_then, reads_twice, stops_here}
 
 -- ---- asking

@@ -1,7 +1,6 @@
 -- What a run leaves, from what its lines do.
-use Rattle.std.proofs.Common.{◌≡◌, inl, inr, ℕ, ◌≤◌, List, [], ◌∷◌, ◌++◌, refl}
-use Rattle.std.proofs.Common.{sym}
-use Rattle.std.proofs.Common.{ap, ◌∙◌, subst, append_assoc, arith}
+use Rattle.std.proofs.Common.{◌≡◌, inl, inr, ℕ, ◌≤◌, List, [], ◌∷◌, ◌++◌, refl, sym, ap, ◌∙◌, subst}
+use Rattle.std.proofs.Common.{append_assoc, arith}
 use Rattle.std.specs.Prelude.{Option, Some, None, IfSome}
 use Rattle.std.specs.Option.{option_map_or}
 use Rattle.std.specs.Io.KnownBytes.{Appends, IsAtEnd}
@@ -33,20 +32,17 @@ use Rattle.dp_joiner.specs.declared.stops.LinkCause.TheVariants as cause
 use Rattle.dp_joiner.specs.Joining.{Joining, Goes, Waits, along, came_to, caller, farewell_bytes}
 use Rattle.dp_joiner.specs.Joining.{greeted, joined, newcomer, takeable}
 use Rattle.dp_joining.specs.Leaves.{FaultMatchesJoin, Counts, IsParting, IsWelcome, JoinLeaves}
-use Rattle.dp_joining.specs.Leaves.{OthersStay, Traffic, WritesAll}
-use Rattle.dp_joining.specs.Leaves.{WritesPart, WritesTaken, WhereKnown}
-use Rattle.dp_joiner.specs.Links.{BeginsWith}
-use Rattle.dp_joining.specs.Outcomes.{IsJoinStep}
-use Rattle.dp_joiner.specs.Links.{link_end}
-use Rattle.dp_joining.specs.Outcomes.{JoinComesTo, JoinOutcome}
+use Rattle.dp_joining.specs.Leaves.{OthersStay, Traffic, WritesAll, WritesPart, WritesTaken}
+use Rattle.dp_joining.specs.Leaves.{WhereKnown, DrawsFew}
+use Rattle.dp_joiner.specs.Links.{BeginsWith, link_end}
+use Rattle.dp_joining.specs.Outcomes.{IsJoinStep, JoinComesTo, JoinOutcome, link_outcome}
+use Rattle.dp_joining.specs.Outcomes.{script_outcome}
 use Rattle.dp_script.specs.Limits.{lines_limit}
-use Rattle.dp_joining.specs.Outcomes.{link_outcome, script_outcome}
 use Rattle.dp_joiner.specs.Partings.{SaysFarewell}
 use Rattle.dp_joining.specs.Partings.{IsSilent, TakesLeave}
 use Rattle.dp_joining.specs.Scripts.{GoesTo, HasDone, HasEnded, IsBegun, StopsAlong, at}
-use Rattle.dp_joiner.specs.Steps.{Began, FaultMatchesStop, HasGiven, IsFaultless, Seen}
-use Rattle.dp_joining.specs.Leaves.{DrawsFew}
-use Rattle.dp_joiner.specs.Steps.{Shows, Wrote}
+use Rattle.dp_joiner.specs.Steps.{Began, FaultMatchesStop, HasGiven, IsFaultless, Seen, Shows}
+use Rattle.dp_joiner.specs.Steps.{Wrote}
 use Rattle.dp_joiner.specs.Stops.{end_of}
 use Rattle.dp_joiner.proofs.Moving.{grows_not}
 use Rattle.dp_joiner.proofs.Reading.{given_begins}

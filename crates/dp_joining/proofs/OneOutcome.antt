@@ -1,7 +1,5 @@
 -- A script and a link come to one outcome.
-use Rattle.std.proofs.Common.{◌≡◌, ◌⊎◌, inl, inr, ℕ, List, [], ◌∷◌, ◌++◌, refl, sym}
-use Rattle.std.proofs.Common.{ap}
-use Rattle.std.proofs.Common.{◌∙◌, subst}
+use Rattle.std.proofs.Common.{◌≡◌, ◌⊎◌, inl, inr, ℕ, List, [], ◌∷◌, ◌++◌, refl, sym, ap, ◌∙◌, subst}
 use Rattle.std.proofs.lemmas.List.{append_assoc, append-nil}
 use Rattle.dp_lines.specs.declared.line.Line.{Line}
 use Rattle.dp_lines.specs.Ends.{AreSteps, IsDoable, LinesComeTo, LinesEnd, seen}
@@ -11,9 +9,8 @@ use Rattle.dp_schedule.specs.JoinGrammar.{Asks}
 use Rattle.dp_script.specs.Leaves.{AreFirstOf}
 use Rattle.dp_joiner.specs.declared.stops.LinkCause.{LinkCause}
 use Rattle.dp_joiner.specs.Joining.{Goes, Waits, joined}
-use Rattle.dp_joining.specs.Outcomes.{AllAsk, EndsByLink, EndsByScript}
-use Rattle.dp_joining.specs.Outcomes.{IsJoinStep, JoinComesTo, JoinOutcome}
-use Rattle.dp_joining.specs.Outcomes.{link_outcome, script_outcome}
+use Rattle.dp_joining.specs.Outcomes.{AllAsk, EndsByLink, EndsByScript, IsJoinStep, JoinComesTo}
+use Rattle.dp_joining.specs.Outcomes.{JoinOutcome, link_outcome, script_outcome}
 use Rattle.dp_script.specs.Limits.{lines_limit}
 use Rattle.dp_joiner.proofs.Prefixes.{IsFirstOf, begin_alike, first_more, first_nil}
 use Rattle.dp_joiner.proofs.Unique.{joined_goes, joined_waits}
@@ -147,8 +144,8 @@ script_or_link laws name input link a b x y =
     let waits : joined name x.actions y.entries ≡ Waits y.waiting =
     ap (λ (acts : List JoinAction). joined name acts y.entries) actions.whole
     ∙ joined_waits name y.actions actions.rest y.entries y.waiting y.waits in
-    waits_not_goes laws.link name x.actions link y.entries x.entries y.waiting x.joining x.left y.why
-    waits (ends_by link y.entries y.why y.ends) x.begins x.goes
+    waits_not_goes laws.link name x.actions link y.entries x.entries y.waiting x.joining x.left
+    y.why waits (ends_by link y.entries y.why y.ends) x.begins x.goes
 
 -- two waits, of which the first is of the first of the lines of the second
 by_longer : AllLaws → (name input link : List ℕ) (a b : JoinOutcome)
