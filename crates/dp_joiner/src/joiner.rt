@@ -289,7 +289,7 @@ impl<B: ClientBoard, R: Source, S: Sink> Joiner<B, R, S> {
             reader,
             rx,
             tx,
-            ..
+            alloc: _,
         } = self;
         drop(client);
         drop(chats);
