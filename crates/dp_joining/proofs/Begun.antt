@@ -1,14 +1,8 @@
 -- What was begun is a first part of what is due.
-use Rattle.std.proofs.Common.{◌≡◌, ◌⊎◌, inl, inr, ℕ, ◌+◌, ◌-◌, ◌≤◌, ◌<◌, List, [], ◌∷◌, ◌++◌}
-use Rattle.std.proofs.Common.{length, take, drop, refl, sym, ap, ◌∙◌, subst, append_assoc, arith}
-use Rattle.std.proofs.Common.{length-append}
+use Rattle.std.proofs.Common.{◌≡◌, ◌⊎◌, inl, inr, ℕ, ◌+◌, ◌-◌, ◌≤◌, List, [], ◌++◌, length, refl}
+use Rattle.std.proofs.Common.{sym, ap, ◌∙◌, subst, arith}
 use Rattle.std.specs.Prelude.{Option, None, Some, IfSome}
-use Rattle.std.specs.List.{fold}
-use Rattle.std.specs.Option.{option_map_or}
-use Rattle.std.proofs.Math.Seq.{take-append-add}
-use Rattle.std.proofs.lemmas.Bool.{cases_lt}
-use Rattle.std.proofs.lemmas.List.{append-nil, drop-append-le, take-append-le}
-use Rattle.std.proofs.lemmas.List.Sums.{fold-append}
+use Rattle.std.proofs.lemmas.List.{append-nil}
 use Rattle.dp_io.specs.Streams.{GrowsByPrefix}
 use Rattle.dp_io.proofs.Prefixes.{grows_whole, grows_within}
 use Rattle.dp_lines.specs.declared.line.Line.{Line}
@@ -23,45 +17,26 @@ use Rattle.dp_msg_draw.specs.declared.draw.Draw.{Draw}
 use Rattle.dp_messages.specs.declared.message.Entry.{Entry}
 use Rattle.dp_pixels.specs.Feet.{reach}
 use Rattle.dp_schedule.specs.declared.join_action.JoinAction.{JoinAction}
-use Rattle.dp_schedule.specs.declared.join_action.JoinAction.TheVariants.{Say, Take, View}
-use Rattle.dp_schedule.specs.declared.join_action.JoinAction.TheVariants.{Confirmed, Snapshot}
-use Rattle.dp_schedule.specs.declared.join_action.JoinAction.TheVariants.{Reset, Chat}
 use Rattle.dp_screen.proofs.Leads.{counts_first}
 use Rattle.dp_script.specs.Counters.{Counters}
 use Rattle.dp_script.specs.Leaves.{AreFirstOf}
 use Rattle.dp_script.specs.Limits.{lines_limit}
-use Rattle.dp_joining.specs.declared.stops.LinkCause.{LinkCause}
-use Rattle.dp_joining.specs.Joining.{Joining, Progress, Goes, Waits, acted, after_line, along}
-use Rattle.dp_joining.specs.Joining.{asked_by, came_to, caller, farewell_bytes, greeted, joined}
-use Rattle.dp_joining.specs.Joining.{newcomer, printed, takeable, took_entry}
+use Rattle.dp_joiner.specs.declared.stops.LinkCause.{LinkCause}
+use Rattle.dp_joiner.specs.Joining.{Joining, Progress, Goes, Waits, came_to, farewell_bytes, joined}
 use Rattle.dp_joining.specs.Leaves.{BeginsDue, GrowsTowards, IsParting, JoinLeaves, Traffic}
-use Rattle.dp_joining.specs.Leaves.{WhereKnown, WritesAll, WritesPart, WritesTaken}
-use Rattle.dp_joining.specs.Outcomes.{AllAsk, BeginsWith, EndsByLink, EndsByScript}
-use Rattle.dp_joining.specs.Outcomes.{IsJoinStep, JoinComesTo, JoinOutcome, script_outcome}
-use Rattle.dp_joining.specs.Steps.{DrawsFew}
-use Rattle.dp_joining.proofs.Along.{along_enough, along_few}
-use Rattle.dp_joining.proofs.Greeted.{greets}
+use Rattle.dp_joining.specs.Leaves.{WhereKnown, WritesAll, WritesPart, WritesTaken, DrawsFew}
+use Rattle.dp_joiner.specs.Links.{BeginsWith}
+use Rattle.dp_joining.specs.Outcomes.{AllAsk, EndsByLink, EndsByScript, IsJoinStep, JoinComesTo}
+use Rattle.dp_joining.specs.Outcomes.{JoinOutcome, script_outcome}
 use Rattle.dp_joining.proofs.Leaving.{Writes}
-use Rattle.dp_joining.proofs.OneOutcome.{AllLaws, IsClosed, IsEnded, asked_alike, ends_by}
-use Rattle.dp_joining.proofs.OneOutcome.{first_within, lists_alike, one_outcome}
-use Rattle.dp_joining.proofs.Prefixes.{IsFirstOf, begin_alike, within_all}
-use Rattle.dp_joining.proofs.Unique.{joined_closed, joined_goes, joined_waits, longer}
+use Rattle.dp_joiner.proofs.LinkEnds.{IsClosed, IsEnded, ends_by}
+use Rattle.dp_joining.proofs.OneOutcome.{AllLaws, asked_alike, first_within, lists_alike}
+use Rattle.dp_joining.proofs.OneOutcome.{one_outcome}
+use Rattle.dp_joiner.proofs.Prefixes.{IsFirstOf, begin_alike, within_all}
+use Rattle.dp_joiner.proofs.Unique.{joined_closed, joined_goes, joined_waits}
+use Rattle.dp_joiner.proofs.GoingOn.{GoesOn, first_self, first_then, first_twice, joined_within}
 
 -- ---- first parts
-
-first_self : {X : Type 0} (xs : List X) → IsFirstOf xs xs
-first_self xs = record { rest = []; whole = sym (append-nil xs) }
-
-first_then : {X : Type 0} (xs ys : List X) → IsFirstOf xs (xs ++ ys)
-first_then xs ys = record { rest = ys; whole = refl }
-
-first_twice : {X : Type 0} (xs ys zs : List X) → IsFirstOf xs ys → IsFirstOf ys zs
-    → IsFirstOf xs zs
-first_twice {X} xs ys zs a b = record {
-  rest = a.rest ++ b.rest;
-  whole =
-      b.whole ∙ ap (λ (l : List X). l ++ b.rest) a.whole ∙ append_assoc xs a.rest b.rest;
-}
 
 -- a prefix of the first part is a prefix of all
 grows_first : (a b : Option (List ℕ)) (xs ys : List ℕ) → IsFirstOf xs ys → GrowsByPrefix a b xs
@@ -74,205 +49,6 @@ draws_first : (c : Counters) (first all : List Draw) → IsFirstOf first all →
 draws_first c first all is few =
     subst (DrawsFew c) (sym is.whole)
     (counts_first reach first is.rest c.draws c.draws_now c.tiles c.tiles_now few)
-
--- ---- a client that goes on
-
--- what the first has printed and written, and may have drawn, is a first part of that of the second
-pub record GoesOn (j k : Joining) : Type 0 where
-  pub text : IsFirstOf j.text k.text
-  pub written : IsFirstOf j.written k.written
-  pub due : IsFirstOf j.due k.due
-
-stays : (j : Joining) → GoesOn j j
-stays j = record {
-  text = first_self j.text;
-  written = first_self j.written;
-  due = first_self j.due;
-}
-
-goes_twice : (j k l : Joining) → GoesOn j k → GoesOn k l → GoesOn j l
-goes_twice j k l a b = record {
-  text = first_twice j.text k.text l.text a.text b.text;
-  written = first_twice j.written k.written l.written a.written b.written;
-  due = first_twice j.due k.due l.due a.due b.due;
-}
-
-takes_on : (j : Joining) (e : Entry) → GoesOn j (took_entry j e)
-takes_on j e = record {
-  text = first_then j.text _;
-  written = first_then j.written _;
-  due = first_then j.due _;
-}
-
-prints_on : (j : Joining) (text : List ℕ) → GoesOn j (printed j text)
-prints_on j text = record {
-  text = first_then j.text text;
-  written = first_self j.written;
-  due = first_self j.due;
-}
-
-folds_on : (es : List Entry) (j : Joining) → GoesOn j (fold took_entry j es)
-folds_on [] j = stays j
-folds_on (e ∷ es) j =
-    goes_twice j (took_entry j e) (fold took_entry (took_entry j e) es) (takes_on j e)
-    (folds_on es (took_entry j e))
-
-acts_on : (action : JoinAction) (j : Joining) → GoesOn j (acted action j)
-acts_on (Say m) j = record {
-  text = first_then j.text _;
-  written = first_then j.written _;
-  due = first_then j.due _;
-}
-acts_on (Take count) j = stays j
-acts_on View j = prints_on j _
-acts_on Confirmed j = prints_on j _
-acts_on Snapshot j = prints_on j _
-acts_on (Reset keeps) j = record {
-  text = first_then j.text _;
-  written = first_then j.written _;
-  due = first_self j.due;
-}
-acts_on Chat j = prints_on j _
-
-line_on : (action : JoinAction) (es : List Entry) (j : Joining) → GoesOn j (after_line action es j)
-line_on action es j =
-    goes_twice j (acted action j) (after_line action es j) (acts_on action j)
-    (folds_on es (acted action j))
-
--- a line with more entries
-line_more : (action : JoinAction) (es ds : List Entry) (j : Joining)
-    → GoesOn (after_line action es j) (after_line action (es ++ ds) j)
-line_more action es ds j =
-    subst (GoesOn (after_line action es j)) (sym (fold-append took_entry (acted action j) es ds))
-    (folds_on ds (after_line action es j))
-
-lines_on : (actions : List JoinAction) (coming : List Entry) (j : Joining)
-    → GoesOn j (came_to (along actions coming j))
-lines_on [] coming j = stays j
-lines_on (action ∷ actions) coming j =
-    let n = asked_by action in
-    let next = after_line action (take n coming) j in
-    elim (cases_lt (length coming) n) [
-      | inl few ↦ subst (λ (p : Progress). GoesOn j (came_to p))
-          (sym (along_few action actions coming j few)) (line_on action coming j)
-      | inr enough ↦ subst (λ (p : Progress). GoesOn j (came_to p))
-          (sym (along_enough action actions coming j enough))
-          (goes_twice j next (came_to (along actions (drop n coming) next))
-          (line_on action (take n coming) j) (lines_on actions (drop n coming) next))
-    ]
-
--- a line that waits, and more lines with more entries
-waits_on : (action : JoinAction) (actions : List JoinAction) (coming extra : List Entry)
-    (j : Joining) → length coming < asked_by action
-    → GoesOn (after_line action coming j) (came_to (along (action ∷ actions) (coming ++ extra) j))
-waits_on action actions coming extra j few =
-    let n = asked_by action in
-    let all = coming ++ extra in
-    elim (cases_lt (length all) n) [
-      | inl still ↦ subst (λ (p : Progress). GoesOn (after_line action coming j) (came_to p))
-          (sym (along_few action actions all j still)) (line_more action coming extra j)
-      | inr enough ↦
-          let more = take (n - length coming) extra in
-          let next = after_line action (take n all) j in
-          let room : n ≡ length coming + (n - length coming) = omega (arith, few) in
-          let first : take n all ≡ coming ++ more =
-          ap (λ (m : ℕ). take m all) room ∙ take-append-add coming extra (n - length coming) in
-          let line : GoesOn (after_line action coming j) next =
-          subst (λ (es : List Entry). GoesOn (after_line action coming j) (after_line action es j))
-          (sym first) (line_more action coming more j) in
-          subst (λ (p : Progress). GoesOn (after_line action coming j) (came_to p))
-          (sym (along_enough action actions all j enough))
-          (goes_twice (after_line action coming j) next (came_to (along actions (drop n all) next))
-          line (lines_on actions (drop n all) next))
-    ]
-
--- more lines with more entries
-along_on : (actions more : List JoinAction) (coming extra : List Entry) (j : Joining)
-    → GoesOn (came_to (along actions coming j))
-    (came_to (along (actions ++ more) (coming ++ extra) j))
-along_on [] more coming extra j = lines_on more (coming ++ extra) j
-along_on (action ∷ actions) more coming extra j =
-    let n = asked_by action in
-    let all = coming ++ extra in
-    let late = came_to (along (action ∷ (actions ++ more)) all j) in
-    elim (cases_lt (length coming) n) [
-      | inl few ↦ subst (λ (p : Progress). GoesOn (came_to p) late)
-          (sym (along_few action actions coming j few))
-          (waits_on action (actions ++ more) coming extra j few)
-      | inr enough ↦
-          let wide : n ≤ length all = omega (arith, length-append coming extra) in
-          let next = after_line action (take n coming) j in
-          let same : along (action ∷ (actions ++ more)) all j
-          ≡ along (actions ++ more) (drop n coming ++ extra) next =
-          along_enough action (actions ++ more) all j wide
-          ∙ ap (λ (xs : List Entry). along (actions ++ more) xs (after_line action (take n all) j))
-          (drop-append-le n coming extra enough)
-          ∙ ap (λ (xs : List Entry). along (actions ++ more) (drop n coming ++ extra)
-          (after_line action xs j)) (take-append-le n coming extra enough) in
-          subst (λ (p : Progress). GoesOn (came_to p) late)
-          (sym (along_enough action actions coming j enough))
-          (subst (λ (p : Progress). GoesOn (came_to (along actions (drop n coming) next))
-          (came_to p)) (sym same) (along_on actions more (drop n coming) extra next))
-    ]
-
--- ---- from the Hello on
-
--- how far a client goes that was greeted so
-from : List ℕ → List JoinAction → List Entry → Option Joining → Progress
-from name actions coming o = option_map_or (λ j. along actions coming j) o (Waits (caller name))
-
-calls_on : (name : List ℕ) (actions : List JoinAction) (ds : List Entry)
-    → GoesOn (caller name) (came_to (joined name actions ds))
-unfolding from
-calls_on name actions [] = stays (caller name)
-calls_on name actions (d ∷ ds) = elim (greets d.msg) [
-  | inl greet ↦
-      let client = greet.client in
-      let first : GoesOn (caller name) (newcomer client name) = record {
-        text = first_self [];
-        written = first_self _;
-        due = first_self [];
-      } in
-      subst (λ (o : Option Joining). GoesOn (caller name)
-      (came_to (from name actions (takeable ds) o))) (sym (greet.makes name))
-      (goes_twice (caller name) (newcomer client name)
-      (came_to (along actions (takeable ds) (newcomer client name))) first
-      (lines_on actions (takeable ds) (newcomer client name)))
-  | inr none ↦ subst (λ (o : Option Joining). GoesOn (caller name)
-      (came_to (from name actions (takeable ds) o))) (sym (none name)) (stays (caller name))
-]
-
-greeted_on : (name : List ℕ) (actions more : List JoinAction) (es extra : List Entry)
-    (o : Option Joining)
-    → GoesOn (came_to (from name actions es o)) (came_to (from name (actions ++ more) (es ++ extra)
-    o))
-unfolding from
-greeted_on name actions more es extra None = stays (caller name)
-greeted_on name actions more es extra (Some j) = along_on actions more es extra j
-
--- more lines over more entries of the link
-joined_on : (name : List ℕ) (actions more : List JoinAction) (es ds : List Entry)
-    → IsFirstOf es ds
-    → GoesOn (came_to (joined name actions es)) (came_to (joined name (actions ++ more) ds))
-unfolding from
-joined_on name actions more [] ds first = calls_on name (actions ++ more) ds
-joined_on name actions more (e ∷ es) ds first =
-    let l = longer es first.rest in
-    let now = came_to (joined name actions (e ∷ es)) in
-    subst (λ (xs : List Entry). GoesOn now (came_to (joined name (actions ++ more) xs)))
-    (sym first.whole)
-    (subst (λ (xs : List Entry). GoesOn now
-    (came_to (from name (actions ++ more) xs (greeted name e.msg)))) (sym l.whole)
-    (greeted_on name actions more (takeable es) l.more (greeted name e.msg)))
-
--- what is come to goes on if the actions are the first of others
-joined_within : (name : List ℕ) (actions others : List JoinAction) (es ds : List Entry)
-    (late : Progress) → IsFirstOf actions others → IsFirstOf es ds → joined name others ds ≡ late
-    → GoesOn (came_to (joined name actions es)) (came_to late)
-joined_within name actions others es ds late acts first is =
-    subst (λ (p : Progress). GoesOn (came_to (joined name actions es)) (came_to p)) is
-    (subst (λ (xs : List JoinAction). GoesOn (came_to (joined name actions es))
-    (came_to (joined name xs ds))) (sym acts.whole) (joined_on name actions acts.rest es ds first))
 
 -- ---- towards what is due
 
@@ -300,7 +76,7 @@ module _ (laws : AllLaws) (name link : List ℕ) where
       (left : List Entry) → IsFirstOf actions others → BeginsWith link es → BeginsWith link ds
       → joined name others ds ≡ Goes j left → GoesOn (came_to (joined name actions es)) j
   towards_goes actions others es ds j left acts begins begins_too goes =
-      elim (begin_alike laws.frames link es ds begins begins_too) [
+      elim (begin_alike laws.link.frames link es ds begins begins_too) [
         | inl first ↦ joined_within name actions others es ds (Goes j left) acts first goes
         | inr first ↦
             let further = joined_goes name others ds es j left first goes in
@@ -314,14 +90,14 @@ module _ (laws : AllLaws) (name link : List ℕ) where
       → IsClosed link ds why ⊎ IsEnded link ds why → joined name others ds ≡ Waits waiting
       → GoesOn (came_to (joined name actions es)) waiting
   towards_waits actions others es ds waiting why acts begins (inl a) waits =
-      elim (begin_alike laws.frames link es ds begins a.begins) [
+      elim (begin_alike laws.link.frames link es ds begins a.begins) [
         | inl first ↦ joined_within name actions others es ds (Waits waiting) acts first waits
         | inr first ↦ joined_within name actions others es es (Waits waiting) acts (first_self es)
             (joined_closed name others ds es a.closed first ∙ waits)
       ]
   towards_waits actions others es ds waiting why acts begins (inr a) waits =
       joined_within name actions others es ds (Waits waiting) acts
-      (within_all laws.frames link es ds a.end begins a.comes) waits
+      (within_all laws.link.frames link es ds a.end begins a.comes) waits
 
   module _ (input : List ℕ) (begun : List Line) (actions : List JoinAction) (es : List Entry)
       (prefix : AreFirstOf IsJoinStep (seen lines_limit input) begun) (asked : AllAsk begun actions)

@@ -1,21 +1,18 @@
 -- Lines that are done one after the other, and the line that ends a run.
-use Rattle.std.proofs.Common.{◌≡◌, inl, inr, ℕ, List, [], ◌∷◌, ◌++◌, refl, sym}
-use Rattle.std.proofs.Common.{ap}
-use Rattle.std.proofs.Common.{◌∙◌, subst}
+use Rattle.std.proofs.Common.{◌≡◌, inl, inr, ℕ, List, [], ◌∷◌, ◌++◌, refl, sym, ap, ◌∙◌, subst}
 use Rattle.dp_io.proofs.Prefixes.{grows_whole}
 use Rattle.dp_lines.specs.declared.line.Line.{Line}
 use Rattle.dp_schedule.specs.declared.join_action.JoinAction.{JoinAction}
 use Rattle.dp_schedule.specs.JoinGrammar.{Asks}
 use Rattle.dp_script.specs.Moments.{Moment}
-use Rattle.dp_joining.specs.declared.stops.JoinStop.{JoinStop}
-use Rattle.dp_joining.specs.declared.stops.JoinStop.TheVariants.{Memory}
-use Rattle.dp_joining.specs.Joining.{Joining, Waits, after_line, along, came_to, takeable}
+use Rattle.dp_joiner.specs.declared.stops.JoinStop.{JoinStop}
+use Rattle.dp_joiner.specs.declared.stops.JoinStop.TheVariants.{Memory}
+use Rattle.dp_joiner.specs.Joining.{Joining, Waits, after_line, along, came_to, takeable}
 use Rattle.dp_joining.specs.Outcomes.{AllAsk}
 use Rattle.dp_joining.specs.Scripts.{HasDone, HasEnded, at}
-use Rattle.dp_joining.specs.Steps.{Began, Halts, IsReadable, Passes, Seen, Stands, Stops}
-use Rattle.dp_joining.proofs.Along.{along_exact, along_next, along_one, along_short}
-use Rattle.dp_joining.proofs.Along.{takeable-append}
-use Rattle.dp_joining.proofs.Reading.{reads_none, reads_then, reads_twice, stops_here}
+use Rattle.dp_joiner.specs.Steps.{Began, Halts, IsReadable, Passes, Seen, Stands, Stops}
+use Rattle.dp_joiner.proofs.Along.{along_exact, along_next, along_one, along_short, takeable-append}
+use Rattle.dp_joiner.proofs.Reading.{reads_none, reads_then, reads_twice, stops_here}
 
 -- ---- asking
 

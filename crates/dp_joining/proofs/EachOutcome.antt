@@ -1,6 +1,6 @@
 -- It can't be that a script and a link come to no outcome.
-use Rattle.std.proofs.Common.{◌≡◌, ◌⊎◌, inl, inr, ⊎_elim, ℕ, ◌≤◌, Bool, true, false, List, []}
-use Rattle.std.proofs.Common.{◌∷◌, ◌++◌, length, take, drop, refl, sym, ap, ◌∙◌, subst, arith}
+use Rattle.std.proofs.Common.{◌≡◌, ◌⊎◌, inl, inr, ⊎_elim, ℕ, ◌≤◌, Bool, true, false, List, [], ◌∷◌}
+use Rattle.std.proofs.Common.{◌++◌, length, take, drop, refl, sym, ap, ◌∙◌, subst, arith}
 use Rattle.std.proofs.Common.{append_assoc, length-append, length-take, take-append-drop}
 use Rattle.std.proofs.lemmas.Bool.{cases_lt}
 use Rattle.std.proofs.lemmas.List.{append-nil}
@@ -16,11 +16,12 @@ use Rattle.dp_schedule.specs.declared.join_action.JoinAction.{JoinAction}
 use Rattle.dp_script.specs.Leaves.{AreFirstOf}
 use Rattle.dp_script.specs.Limits.{lines_limit}
 use Rattle.dp_io.specs.Limits.{stream_limit}
-use Rattle.dp_joining.specs.declared.stops.LinkCause.{LinkCause}
-use Rattle.dp_joining.specs.declared.stops.LinkCause.TheVariants as cause
-use Rattle.dp_joining.specs.Joining.{Progress, Goes, Waits, is_closed, joined}
-use Rattle.dp_joining.specs.Outcomes.{AllAsk, BeginsWith, EndsLink, IsJoinStep, JoinComesTo}
-use Rattle.dp_joining.specs.Outcomes.{JoinOutcome, LinkComesTo, link_outcome, script_outcome}
+use Rattle.dp_joiner.specs.declared.stops.LinkCause.{LinkCause}
+use Rattle.dp_joiner.specs.declared.stops.LinkCause.TheVariants as cause
+use Rattle.dp_joiner.specs.Joining.{Progress, Goes, Waits, is_closed, joined}
+use Rattle.dp_joiner.specs.Links.{BeginsWith, EndsLink, LinkComesTo}
+use Rattle.dp_joining.specs.Outcomes.{AllAsk, IsJoinStep, JoinComesTo, JoinOutcome, link_outcome}
+use Rattle.dp_joining.specs.Outcomes.{script_outcome}
 use Rattle.dp_joining.proofs.Doing.{asked_more}
 use Rattle.dp_joining.proofs.Leaving.{FurtherStep}
 

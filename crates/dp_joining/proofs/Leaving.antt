@@ -1,7 +1,6 @@
 -- What a run leaves, from what its lines do.
-use Rattle.std.proofs.Common.{◌≡◌, inl, inr, ℕ, ◌≤◌, List, [], ◌∷◌, ◌++◌, refl}
-use Rattle.std.proofs.Common.{sym}
-use Rattle.std.proofs.Common.{ap, ◌∙◌, subst, append_assoc, arith}
+use Rattle.std.proofs.Common.{◌≡◌, inl, inr, ℕ, ◌≤◌, List, [], ◌∷◌, ◌++◌, refl, sym, ap, ◌∙◌, subst}
+use Rattle.std.proofs.Common.{append_assoc, arith}
 use Rattle.std.specs.Prelude.{Option, Some, None, IfSome}
 use Rattle.std.specs.Option.{option_map_or}
 use Rattle.std.specs.Io.KnownBytes.{Appends, IsAtEnd}
@@ -21,35 +20,41 @@ use Rattle.dp_schedule.specs.declared.join_action.JoinAction.{JoinAction}
 use Rattle.dp_script.specs.declared.machine.ScriptEnd.{ScriptEnd}
 use Rattle.dp_script.specs.declared.machine.ScriptEnd.TheVariants.{Done, BadLine, ReadFault, Long}
 use Rattle.dp_script.specs.declared.machine.ScriptEnd.TheVariants.{Memory, Ended}
+use Rattle.dp_script.specs.Counters.{Counters, counters}
 use Rattle.dp_script.specs.Ends.{FaultMatchesInput}
 use Rattle.dp_script.specs.Leaves.{HoldsLines, AreFirstOf, IsNextOf, ScriptLeaves}
 use Rattle.dp_script.specs.Moments.{Moment}
 use Rattle.dp_lines.specs.TakenParts.{TookWithin}
-use Rattle.dp_joining.specs.declared.stops.JoinStop.{JoinStop}
-use Rattle.dp_joining.specs.declared.stops.JoinStop.TheVariants as stop
-use Rattle.dp_joining.specs.declared.stops.LinkCause.{LinkCause}
-use Rattle.dp_joining.specs.declared.stops.LinkCause.TheVariants as cause
-use Rattle.dp_joining.specs.Joining.{Joining, Goes, Waits, along, came_to, caller, farewell_bytes}
-use Rattle.dp_joining.specs.Joining.{greeted, joined, newcomer, takeable}
+use Rattle.dp_joiner.specs.declared.stops.JoinStop.{JoinStop}
+use Rattle.dp_joiner.specs.declared.stops.JoinStop.TheVariants as stop
+use Rattle.dp_joiner.specs.declared.stops.LinkCause.{LinkCause}
+use Rattle.dp_joiner.specs.declared.stops.LinkCause.TheVariants as cause
+use Rattle.dp_joiner.specs.Joining.{Joining, Goes, Waits, along, came_to, caller, farewell_bytes}
+use Rattle.dp_joiner.specs.Joining.{greeted, joined, newcomer, takeable}
 use Rattle.dp_joining.specs.Leaves.{FaultMatchesJoin, Counts, IsParting, IsWelcome, JoinLeaves}
-use Rattle.dp_joining.specs.Leaves.{OthersStay, Traffic, WritesAll}
-use Rattle.dp_joining.specs.Leaves.{WritesPart, WritesTaken, WhereKnown}
-use Rattle.dp_joining.specs.Outcomes.{BeginsWith, IsJoinStep}
-use Rattle.dp_joining.specs.Outcomes.{JoinComesTo, JoinOutcome, link_end}
+use Rattle.dp_joining.specs.Leaves.{OthersStay, Traffic, WritesAll, WritesPart, WritesTaken}
+use Rattle.dp_joining.specs.Leaves.{WhereKnown, DrawsFew}
+use Rattle.dp_joiner.specs.Links.{BeginsWith, link_end}
+use Rattle.dp_joining.specs.Outcomes.{IsJoinStep, JoinComesTo, JoinOutcome, link_outcome}
+use Rattle.dp_joining.specs.Outcomes.{script_outcome}
 use Rattle.dp_script.specs.Limits.{lines_limit}
-use Rattle.dp_joining.specs.Outcomes.{link_outcome, script_outcome}
-use Rattle.dp_joining.specs.Partings.{IsSilent, TakesLeave, SaysFarewell}
+use Rattle.dp_joiner.specs.Partings.{SaysFarewell}
+use Rattle.dp_joining.specs.Partings.{IsSilent, TakesLeave}
 use Rattle.dp_joining.specs.Scripts.{GoesTo, HasDone, HasEnded, IsBegun, StopsAlong, at}
-use Rattle.dp_joining.specs.Steps.{Began, DrawsFew, FaultMatchesStop, HasGiven, IsFaultless, Seen}
-use Rattle.dp_joining.specs.Steps.{Shows, Wrote, counters_at}
-use Rattle.dp_joining.specs.Stops.{end_of}
-use Rattle.dp_joining.proofs.Moving.{grows_not}
-use Rattle.dp_joining.proofs.Reading.{given_begins}
+use Rattle.dp_joiner.specs.Steps.{Began, FaultMatchesStop, HasGiven, IsFaultless, Seen, Shows}
+use Rattle.dp_joiner.specs.Steps.{Wrote}
+use Rattle.dp_joiner.specs.Stops.{end_of}
+use Rattle.dp_joiner.proofs.Moving.{grows_not}
+use Rattle.dp_joiner.proofs.Reading.{given_begins}
 
 -- steps with a doable line after them are steps
 abbrev pub FurtherStep : Type 0
 FurtherStep = (done : List Line) (line : Line) → AreSteps IsJoinStep done
     → IsDoable IsJoinStep done line → AreSteps IsJoinStep (done ++ line ∷ [])
+
+-- the counters at the start, and now
+abbrev counters_at : Seen → Seen → Counters
+counters_at start now = counters start.draws now.draws start.tiles now.tiles
 
 -- what a script and a link come to was written
 abbrev pub Writes : List ℕ → Traffic → RunEnd → List ℕ → List ℕ → Type 0

@@ -1,16 +1,6 @@
-pub mod Along
-pub mod Greeted
-pub mod Reading
-pub mod Moving
-pub mod Resets
-pub mod Taking
-pub mod Acting
 pub mod Doing
-pub mod Welcoming
 pub mod Leaving
 pub mod Starting
-pub mod Prefixes
-pub mod Unique
 pub mod OneOutcome
 pub mod EachOutcome
 pub mod Begun

@@ -1,32 +1,24 @@
 -- A script and a link come to one outcome.
-use Rattle.std.proofs.Common.{◌≡◌, ◌⊎◌, inl, inr, ℕ, true, false, List, [], ◌∷◌, ◌++◌, refl, sym}
-use Rattle.std.proofs.Common.{ap}
-use Rattle.std.proofs.Common.{◌∙◌, subst}
+use Rattle.std.proofs.Common.{◌≡◌, ◌⊎◌, inl, inr, ℕ, List, [], ◌∷◌, ◌++◌, refl, sym, ap, ◌∙◌, subst}
 use Rattle.std.proofs.lemmas.List.{append_assoc, append-nil}
 use Rattle.dp_lines.specs.declared.line.Line.{Line}
-use Rattle.dp_lines.specs.declared.run_end.RunEnd.{RunEnd}
-use Rattle.dp_lines.specs.declared.run_end.RunEnd.TheVariants as run
 use Rattle.dp_lines.specs.Ends.{AreSteps, IsDoable, LinesComeTo, LinesEnd, seen}
 use Rattle.dp_lines.specs.Ends as ends
-use Rattle.dp_messages.specs.declared.message.Entry.{Entry}
 use Rattle.dp_schedule.specs.declared.join_action.JoinAction.{JoinAction}
 use Rattle.dp_schedule.specs.JoinGrammar.{Asks}
 use Rattle.dp_script.specs.Leaves.{AreFirstOf}
-use Rattle.dp_joining.specs.declared.stops.LinkCause.{LinkCause}
-use Rattle.dp_joining.specs.declared.stops.LinkCause.TheVariants as cause
-use Rattle.dp_joining.specs.Joining.{Joining, Goes, Waits, is_closed, joined}
-use Rattle.dp_joining.specs.Outcomes.{AllAsk, BeginsWith, EndsByLink, EndsByScript, EndsLink}
-use Rattle.dp_joining.specs.Outcomes.{IsJoinStep, JoinComesTo, LinkComesTo, JoinOutcome}
-use Rattle.dp_joining.specs.Outcomes.{link_outcome, script_outcome}
+use Rattle.dp_joiner.specs.declared.stops.LinkCause.{LinkCause}
+use Rattle.dp_joiner.specs.Joining.{Goes, Waits, joined}
+use Rattle.dp_joining.specs.Outcomes.{AllAsk, EndsByLink, EndsByScript, IsJoinStep, JoinComesTo}
+use Rattle.dp_joining.specs.Outcomes.{JoinOutcome, link_outcome, script_outcome}
 use Rattle.dp_script.specs.Limits.{lines_limit}
-use Rattle.dp_joining.proofs.Along.{closed-longer}
-use Rattle.dp_joining.proofs.Prefixes.{IsFirstOf, Laws, begin_alike, first_more, first_nil}
-use Rattle.dp_joining.proofs.Prefixes.{within_all}
-use Rattle.dp_joining.proofs.Unique.{joined_closed, joined_goes, joined_waits}
+use Rattle.dp_joiner.proofs.Prefixes.{IsFirstOf, begin_alike, first_more, first_nil}
+use Rattle.dp_joiner.proofs.Unique.{joined_goes, joined_waits}
+use Rattle.dp_joiner.proofs.LinkEnds.{LinkLaws, ends_by, ends_same, waits_not_goes}
 
 -- the laws of the crates below
 pub record AllLaws : Type 0 where
-  pub frames : Laws
+  pub link : LinkLaws
   pub action : (line : List ℕ) (action other : JoinAction) → Asks line action → Asks line other
       → action ≡ other
   pub lines : (bytes : List ℕ) (done others : List Line) (end last : LinesEnd)
@@ -35,10 +27,6 @@ pub record AllLaws : Type 0 where
   pub last : (bytes : List ℕ) (done others : List Line) (end last : LinesEnd)
       → LinesComeTo IsJoinStep lines_limit bytes done end
       → LinesComeTo IsJoinStep lines_limit bytes others last → end ≡ last
-  pub entries : (link : List ℕ) (es ds : List Entry) (end other : RunEnd)
-      → LinkComesTo link es end → LinkComesTo link ds other → es ≡ ds
-  pub end : (link : List ℕ) (es ds : List Entry) (end other : RunEnd)
-      → LinkComesTo link es end → LinkComesTo link ds other → end ≡ other
 
 -- ---- lines
 
@@ -124,101 +112,6 @@ first_within input begun done (ends.BadLine n) prefix comes =
           prefix.steps (sym prefix.parts ∙ comes.next) comes.bad
     ]
 
--- ---- the link
-
--- what two ends of one link tell of the lines that wait at them
-pub record EndsAlike (name : List ℕ) (actions : List JoinAction) (es ds : List Entry)
-    (why other : LinkCause) : Type 0 where
-  pub progress : joined name actions es ≡ joined name actions ds
-  pub cause : why ≡ other
-
--- two ends that come of disconnects
-both_closed : AllLaws → (name : List ℕ) (actions : List JoinAction) (link : List ℕ)
-    (es ds : List Entry) → BeginsWith link es → is_closed es ≡ true
-    → BeginsWith link ds → is_closed ds ≡ true
-    → joined name actions es ≡ joined name actions ds
-both_closed laws name actions link es ds begins closed begins_too closed_too =
-    elim (begin_alike laws.frames link es ds begins begins_too) [
-      | inl first ↦ sym (joined_closed name actions es ds closed first)
-      | inr first ↦ joined_closed name actions ds es closed_too first
-    ]
-
--- a Disconnect is none of all the entries of a link if none of them is one
-not_closed : AllLaws → (link : List ℕ) (es ds : List Entry) (end : RunEnd)
-    → BeginsWith link es → is_closed es ≡ true → LinkComesTo link ds end
-    → is_closed ds ≡ false → ⊥
-not_closed laws link es ds end begins closed comes still =
-    let first = within_all laws.frames link es ds end begins comes in
-    let too : is_closed ds ≡ true =
-    ap is_closed first.whole ∙ closed-longer es first.rest closed in
-    cc (sym still ∙ too)
-
--- the cause that comes of an end of the bytes
-pub by_end : RunEnd → LinkCause
-by_end (run.BadMessage n) = cause.BadMessage n
-by_end run.Long = cause.Long
-by_end end = cause.Closed
-
--- it was closed
-pub record IsClosed (link : List ℕ) (es : List Entry) (why : LinkCause) : Type 0 where
-  pub begins : BeginsWith link es
-  pub closed : is_closed es ≡ true
-  pub is : why ≡ cause.Closed
-
--- its bytes came to an end
-pub record IsEnded (link : List ℕ) (es : List Entry) (why : LinkCause) : Type 0 where
-  pub still : is_closed es ≡ false
-  pub end : RunEnd
-  pub comes : LinkComesTo link es end
-  pub is : why ≡ by_end end
-
-pub ends_by : (link : List ℕ) (es : List Entry) (why : LinkCause) → EndsLink link es why
-    → IsClosed link es why ⊎ IsEnded link es why
-unfolding by_end
-ends_by link es cause.Closed (inl (begins, closed)) =
-    inl (record { begins = begins; closed = closed; is = refl })
-ends_by link es cause.Closed (inr (inl (still, comes))) =
-    inr (record { still = still; end = run.Done; comes = comes; is = refl })
-ends_by link es cause.Closed (inr (inr (still, n, comes))) =
-    inr (record { still = still; end = run.Truncated n; comes = comes; is = refl })
-ends_by link es (cause.BadMessage n) (still, comes) =
-    inr (record { still = still; end = run.BadMessage n; comes = comes; is = refl })
-ends_by link es cause.Long (still, comes) =
-    inr (record { still = still; end = run.Long; comes = comes; is = refl })
-
-ends_same : AllLaws → (name : List ℕ) (actions : List JoinAction) (link : List ℕ)
-    (es ds : List Entry) (why other : LinkCause)
-    → IsClosed link es why ⊎ IsEnded link es why → IsClosed link ds other ⊎ IsEnded link ds other
-    → EndsAlike name actions es ds why other
-ends_same laws name actions link es ds why other (inl a) (inl b) = record {
-  progress = both_closed laws name actions link es ds a.begins a.closed b.begins b.closed;
-  cause = a.is ∙ sym b.is;
-}
-ends_same laws name actions link es ds why other (inl a) (inr b) =
-    absurd (not_closed laws link es ds b.end a.begins a.closed b.comes b.still)
-ends_same laws name actions link es ds why other (inr a) (inl b) =
-    absurd (not_closed laws link ds es a.end b.begins b.closed a.comes a.still)
-ends_same laws name actions link es ds why other (inr a) (inr b) = record {
-  progress =
-      ap (joined name actions) (laws.entries link es ds a.end b.end a.comes b.comes);
-  cause = a.is ∙ ap by_end (laws.end link es ds a.end b.end a.comes b.comes) ∙ sym b.is;
-}
-
--- if lines wait at an end of the link, they aren't all done over other entries of it
-waits_not_goes : AllLaws → (name : List ℕ) (actions : List JoinAction) (link : List ℕ)
-    (es ds : List Entry) (waiting j : Joining) (left : List Entry)
-    (why : LinkCause) → joined name actions es ≡ Waits waiting
-    → IsClosed link es why ⊎ IsEnded link es why
-    → BeginsWith link ds → joined name actions ds ≡ Goes j left → ⊥
-waits_not_goes laws name actions link es ds waiting j left why waits (inl a) begins goes =
-    elim (begin_alike laws.frames link es ds a.begins begins) [
-      | inl first ↦ cc (sym waits ∙ sym (joined_closed name actions es ds a.closed first) ∙ goes)
-      | inr first ↦ cc (sym waits ∙ (joined_goes name actions ds es j left first goes).1)
-    ]
-waits_not_goes laws name actions link es ds waiting j left why waits (inr a) begins goes =
-    let first = within_all laws.frames link ds es a.end begins a.comes in
-    cc (sym waits ∙ (joined_goes name actions ds es j left first goes).1)
-
 -- ---- outcomes
 
 by_scripts : AllLaws → (name input link : List ℕ) (a b : JoinOutcome)
@@ -232,7 +125,7 @@ by_scripts laws name input link a b x y =
     let goes : joined name y.actions x.entries ≡ Goes x.joining x.left =
     ap (λ (acts : List JoinAction). joined name acts x.entries) (sym actions) ∙ x.goes in
     let same : x.joining ≡ y.joining =
-    elim (begin_alike laws.frames link x.entries y.entries x.begins y.begins) [
+    elim (begin_alike laws.link.frames link x.entries y.entries x.begins y.begins) [
       | inl first ↦
           cc (sym (joined_goes name y.actions x.entries y.entries x.joining x.left first goes).1
           ∙ y.goes)
@@ -251,8 +144,8 @@ script_or_link laws name input link a b x y =
     let waits : joined name x.actions y.entries ≡ Waits y.waiting =
     ap (λ (acts : List JoinAction). joined name acts y.entries) actions.whole
     ∙ joined_waits name y.actions actions.rest y.entries y.waiting y.waits in
-    waits_not_goes laws name x.actions link y.entries x.entries y.waiting x.joining x.left y.why
-    waits (ends_by link y.entries y.why y.ends) x.begins x.goes
+    waits_not_goes laws.link name x.actions link y.entries x.entries y.waiting x.joining x.left
+    y.why waits (ends_by link y.entries y.why y.ends) x.begins x.goes
 
 -- two waits, of which the first is of the first of the lines of the second
 by_longer : AllLaws → (name input link : List ℕ) (a b : JoinOutcome)
@@ -263,7 +156,7 @@ by_longer laws name input link a b x y lines =
     let waits : joined name y.actions x.entries ≡ Waits x.waiting =
     ap (λ (acts : List JoinAction). joined name acts x.entries) actions.whole
     ∙ joined_waits name x.actions actions.rest x.entries x.waiting x.waits in
-    let alike = ends_same laws name y.actions link x.entries y.entries x.why y.why
+    let alike = ends_same laws.link name y.actions link x.entries y.entries x.why y.why
     (ends_by link x.entries x.why x.ends) (ends_by link y.entries y.why y.ends) in
     let progress : Waits x.waiting ≡ Waits y.waiting = sym waits ∙ alike.progress ∙ y.waits in
     let same : x.waiting ≡ y.waiting = cc (progress) in

@@ -1,6 +1,6 @@
 -- How a run over a link begins.
-use Rattle.std.proofs.Common.{◌≡◌, inl, inr, ℕ, List, [], ◌∷◌, ◌++◌, refl, sym, ap, ◌∙◌}
-use Rattle.std.proofs.Common.{arith, subst}
+use Rattle.std.proofs.Common.{◌≡◌, inl, inr, ℕ, List, [], ◌∷◌, ◌++◌, refl, sym, ap, ◌∙◌, arith}
+use Rattle.std.proofs.Common.{subst}
 use Rattle.std.specs.Prelude.{Option, Some, None, IfSome, IsTrue}
 use Rattle.std.specs.Io.KnownBytes.{Appends}
 use Rattle.std.proofs.KnownBytes.{Appends-nil}
@@ -17,23 +17,21 @@ use Rattle.dp_script.specs.Counters.{Counters, NothingIsDrawn}
 use Rattle.dp_script.specs.Leaves.{AreFirstOf}
 use Rattle.dp_wire.specs.Links.{HandsOut, Links, WhereKnown as WhereLinks}
 use Rattle.dp_joining.specs.Runs.{Returns}
-use Rattle.dp_joining.specs.declared.stops.JoinStop.{JoinStop}
-use Rattle.dp_joining.specs.declared.stops.JoinStop.TheVariants.{NoEntry}
-use Rattle.dp_joining.specs.declared.stops.LinkCause.{LinkCause}
-use Rattle.dp_joining.specs.Greetings.{GreetingFails, Welcomes}
-use Rattle.dp_joining.specs.Joining.{Progress, came_to, caller, chat_limit, hello_bytes}
-use Rattle.dp_joining.specs.Leaves.{IsWelcome, JoinLeaves}
-use Rattle.dp_joining.specs.Leaves.{ReadsNoFurther, Traffic, WaitsUnread, WhereKnown, WritesAll}
-use Rattle.dp_joining.specs.Leaves.{WritesPart}
-use Rattle.dp_joining.specs.Outcomes.{IsJoinStep, BeginsWith, link_end}
-use Rattle.dp_joining.specs.Outcomes.{link_outcome}
+use Rattle.dp_joiner.specs.declared.stops.JoinStop.{JoinStop}
+use Rattle.dp_joiner.specs.declared.stops.JoinStop.TheVariants.{NoEntry}
+use Rattle.dp_joiner.specs.declared.stops.LinkCause.{LinkCause}
+use Rattle.dp_joiner.specs.Greetings.{GreetingFails, Welcomes}
+use Rattle.dp_joiner.specs.Joining.{Progress, came_to, caller, chat_limit, hello_bytes}
+use Rattle.dp_joining.specs.Leaves.{IsWelcome, JoinLeaves, ReadsNoFurther, Traffic, WaitsUnread}
+use Rattle.dp_joining.specs.Leaves.{WhereKnown, WritesAll, WritesPart, DrawsFew}
+use Rattle.dp_joiner.specs.Links.{BeginsWith, link_end}
+use Rattle.dp_joining.specs.Outcomes.{IsJoinStep, link_outcome}
 use Rattle.dp_script.specs.Limits.{lines_limit}
-use Rattle.dp_joining.specs.Steps.{DrawsFew, Linked, Seen, Shows, Source}
-use Rattle.dp_joining.specs.Steps.{seen as seen_at}
-use Rattle.dp_joining.specs.Stops.{end_of}
+use Rattle.dp_joiner.specs.Steps.{Linked, Seen, Shows, Source, seen as seen_at}
+use Rattle.dp_joiner.specs.Stops.{end_of}
 use Rattle.dp_joining.proofs.Leaving.{Writes, link_leaves}
-use Rattle.dp_joining.proofs.Moving.{drew_none, grows_not}
-use Rattle.dp_joining.proofs.Reading.{given_begins}
+use Rattle.dp_joiner.proofs.Moving.{drew_none, grows_not}
+use Rattle.dp_joiner.proofs.Reading.{given_begins}
 
 -- ---- welcomed
 

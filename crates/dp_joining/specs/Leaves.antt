@@ -1,10 +1,12 @@
 -- What a run of `join` over a link leaves.
-use Rattle.std.specs.Prelude.{◌≡◌, ◌⊎◌, ℕ, false, List, [], ◌∷◌, ◌++◌, Option, None, Some}
-use Rattle.std.specs.Prelude.{IfSome}
+use Rattle.std.specs.Prelude.{◌≡◌, ◌⊎◌, ℕ, false, List, [], ◌∷◌, ◌++◌, Option, None, Some, IfSome}
 use Rattle.std.specs.Io.KnownBytes.{Appends, IsAtEnd}
+use Rattle.dp_board.specs.Counts.{CountsFew}
 use Rattle.dp_io.specs.Faults.{Rose}
 use Rattle.dp_io.specs.Streams.{GrowsByPrefix}
+use Rattle.dp_msg_draw.specs.declared.draw.Draw.{Draw}
 use Rattle.dp_messages.specs.declared.message.Entry.{Entry}
+use Rattle.dp_pixels.specs.Feet.{reach}
 use Rattle.dp_lines.specs.declared.line.Line.{Line}
 use Rattle.dp_lines.specs.declared.run_end.RunEnd.{RunEnd}
 use Rattle.dp_lines.specs.declared.run_end.RunEnd.TheVariants.{Done, BadLine, ReadFault, WriteFault}
@@ -16,11 +18,12 @@ use Rattle.dp_schedule.specs.declared.join_action.JoinAction.{JoinAction}
 use Rattle.dp_script.specs.Counters.{Counters}
 use Rattle.dp_script.specs.Leaves.{HoldsLines, HoldsNoCause, AreFirstOf}
 use Rattle.dp_lines.specs.TakenParts.{TookWithin}
-use Rattle.dp_joining.specs.Joining.{Joining, Progress, Goes, came_to, farewell_bytes, greeted}
-use Rattle.dp_joining.specs.Joining.{is_closed, joined, newcomer}
-use Rattle.dp_joining.specs.Outcomes.{AllAsk, BeginsWith, IsJoinStep, JoinComesTo, JoinOutcome}
 use Rattle.dp_script.specs.Limits.{lines_limit}
-use Rattle.dp_joining.specs.Steps.{DrawsFew, HasGiven, Seen, Stands}
+use Rattle.dp_joiner.specs.Joining.{Joining, Progress, Goes, came_to, farewell_bytes, greeted}
+use Rattle.dp_joiner.specs.Joining.{is_closed, joined, newcomer}
+use Rattle.dp_joiner.specs.Links.{BeginsWith}
+use Rattle.dp_joiner.specs.Steps.{HasGiven, Seen, Stands}
+use Rattle.dp_joining.specs.Outcomes.{AllAsk, IsJoinStep, JoinComesTo, JoinOutcome}
 
 -- What a run sees of its devices before and after it. The bytes that are left of the script, and
 -- those of the link at the start. The bytes on the output and those written to the link, and the
@@ -38,6 +41,10 @@ pub record Traffic : Type 0 where
 -- P holds of the bytes of the script and of the link, if both are known
 abbrev pub WhereKnown : Traffic → (List ℕ → List ℕ → Type 0) → Type 0
 WhereKnown t P = IfSome t.input (λ input. IfSome t.link (λ link. P input link))
+
+-- each of these commands was drawn once at most, and no more tiles were made than they reach
+abbrev pub DrawsFew : Counters → List Draw → Type 0
+DrawsFew c due = CountsFew reach due c.draws c.draws_now c.tiles c.tiles_now
 
 -- What the script and the link come to ends with this. Its text and its bytes were written, and no
 -- more was drawn than is due.

@@ -1,9 +1,4 @@
-pub mod JoinStanding
-pub mod Joining
 pub mod Outcomes
-pub mod Stops
-pub mod Steps
-pub mod Greetings
 pub mod Scripts
 pub mod Partings
 pub mod Leaves

@@ -1,24 +1,13 @@
 -- How a client leaves its server.
-use Rattle.std.specs.Prelude.{◌≡◌, ◌⊎◌, ℕ, ◌≤◌, List, Option}
-use Rattle.std.specs.Io.KnownBytes.{Appends}
-use Rattle.dp_io.specs.Faults.{Rose}
-use Rattle.dp_io.specs.Streams.{GrowsByPrefix}
+use Rattle.std.specs.Prelude.{◌≡◌, ℕ, List, Option}
 use Rattle.dp_lines.specs.declared.run_end.RunEnd.{RunEnd}
 use Rattle.dp_lines.specs.declared.run_end.RunEnd.TheVariants as run
 use Rattle.dp_script.specs.declared.machine.ScriptEnd.{ScriptEnd}
 use Rattle.dp_script.specs.declared.machine.ScriptEnd.TheVariants.{Done, BadLine, ReadFault, Long}
 use Rattle.dp_script.specs.declared.machine.ScriptEnd.TheVariants.{Memory, Ended}
-use Rattle.dp_joining.specs.declared.stops.JoinStop.{JoinStop}
-use Rattle.dp_joining.specs.Joining.{farewell_bytes}
-use Rattle.dp_joining.specs.Stops.{end_of}
-
--- the Disconnect was written, or a prefix of it, if the link failed or memory ran out
-abbrev pub SaysFarewell : Option (List ℕ) → Option (List ℕ) → ℕ → ℕ → ℕ → RunEnd → Type 0
-SaysFarewell old now before after user end =
-    ((end ≡ run.Done) × Appends old now (farewell_bytes user) × (after ≡ before))
-    ⊎ ((end ≡ run.LinkFault) × GrowsByPrefix old now (farewell_bytes user)
-    × Rose before after × (before ≤ after))
-    ⊎ ((end ≡ run.Memory) × GrowsByPrefix old now (farewell_bytes user) × (after ≡ before))
+use Rattle.dp_joiner.specs.declared.stops.JoinStop.{JoinStop}
+use Rattle.dp_joiner.specs.Partings.{SaysFarewell}
+use Rattle.dp_joiner.specs.Stops.{end_of}
 
 -- nothing more is written, and the run ends as is due
 pub record IsSilent (old now : Option (List ℕ)) (before after : ℕ) (due end : RunEnd) : Type 0 where

@@ -5,8 +5,8 @@ use Rattle.dp_lines.specs.declared.run_end.RunEnd.{RunEnd}
 use Rattle.dp_lines.specs.declared.run_end.RunEnd.TheVariants.{LinkFault, Memory}
 use Rattle.dp_script.specs.Counters.{Counters, NothingIsDrawn}
 use Rattle.dp_wire.specs.Links.{Links, WhereKnown}
-use Rattle.dp_joining.specs.Leaves.{BeginsDue, FaultMatchesJoin, JoinLeaves}
-use Rattle.dp_joining.specs.Leaves.{ReadsNoFurther, Traffic, WaitsUnread, WhereKnown as WhereRead}
+use Rattle.dp_joining.specs.Leaves.{BeginsDue, FaultMatchesJoin, JoinLeaves, ReadsNoFurther}
+use Rattle.dp_joining.specs.Leaves.{Traffic, WaitsUnread, WhereKnown as WhereRead}
 
 -- the script and the output before and after a run: their bytes, if they are known, and their
 -- counts of faults; and the counters of draws and of tiles

@@ -1,27 +1,14 @@
 -- The lines of a script, done one after the other.
-use Rattle.std.specs.Prelude.{◌≡◌, ◌⊎◌, ℕ, ◌≤◌, List, [], ◌∷◌, ◌++◌, ⊤}
+use Rattle.std.specs.Prelude.{◌≡◌, ◌⊎◌, ℕ, List, [], ◌∷◌, ◌++◌, Option}
 use Rattle.dp_lines.specs.declared.line.Line.{Line}
 use Rattle.dp_messages.specs.declared.message.Entry.{Entry}
-use Rattle.dp_messages.specs.Messages.{kind_of}
 use Rattle.dp_schedule.specs.declared.join_action.JoinAction.{JoinAction}
-use Rattle.dp_schedule.specs.declared.join_action.JoinAction.TheVariants.{Say, Take, View}
-use Rattle.dp_schedule.specs.declared.join_action.JoinAction.TheVariants.{Confirmed, Snapshot}
-use Rattle.dp_schedule.specs.declared.join_action.JoinAction.TheVariants.{Reset, Chat}
 use Rattle.dp_script.specs.Moments.{Moment}
-use Rattle.dp_joining.specs.declared.stops.JoinStop.{JoinStop}
-use Rattle.dp_joining.specs.Joining.{Joining, Progress, Goes, Waits, along, came_to, takeable}
+use Rattle.dp_joiner.specs.declared.stops.JoinStop.{JoinStop}
+use Rattle.dp_joiner.specs.Joining.{Joining, Progress, Goes, Waits, along, came_to, takeable}
+use Rattle.dp_joiner.specs.Steps.{IsNoEntry, ReadsOn, ReadsUpTo, Seen, Stands, Stops, seen}
+use Rattle.dp_joining.specs.declared.machine.JoinMachine.{JoinMachine}
 use Rattle.dp_joining.specs.Outcomes.{AllAsk, IsJoinStep}
-use Rattle.dp_joining.specs.Steps.{IsNoEntry, ReadsOn, ReadsUpTo, Seen, Stands, Stops}
-
--- a message that the action says may be sent by a client: it is no control message
-abbrev pub IsSendable : JoinAction → Type 0
-IsSendable (Say m) = 32 ≤ kind_of m
-IsSendable (Take count) = ⊤
-IsSendable View = ⊤
-IsSendable Confirmed = ⊤
-IsSendable Snapshot = ⊤
-IsSendable (Reset keeps) = ⊤
-IsSendable Chat = ⊤
 
 -- all the lines are done, with all the entries
 pub record GoesTo (start now : Seen) (progress : Progress) : Type 0 where
@@ -33,6 +20,12 @@ pub record GoesTo (start now : Seen) (progress : Progress) : Type 0 where
 pub record StopsAlong (start now : Seen) (progress : Progress) (stop : JoinStop) : Type 0 where
   pub stops : Stops start now (came_to progress) stop
   pub waits : IsNoEntry stop → progress ≡ Waits (came_to progress)
+
+-- what is seen of the client that does the lines
+abbrev pub seen_by : {O B R S : Type 0} → (O → Option (List ℕ)) → (O → ℕ) → JoinMachine B R S → O
+    → ℕ → ℕ → Seen
+seen_by printed print_faults machine output draws tiles =
+    seen printed print_faults machine.joiner output draws tiles
 
 -- what is seen at a moment
 abbrev pub at : {M O : Type 0} → (M → O → ℕ → ℕ → Seen) → Moment M O ℕ ℕ → Seen

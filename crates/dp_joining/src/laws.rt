@@ -5,9 +5,9 @@ ghost use Rattle.dp_lines.specs.declared.run_end.RunEnd.{RunEnd};
 ghost use Rattle.dp_joining.specs.Leaves.{BeginsDue, JoinLeaves, Traffic, WhereKnown};
 ghost use Rattle.dp_joining.specs.Outcomes.{JoinComesTo, JoinOutcome};
 
-use crate::join_standing::JoinStanding;
 use dp_entries::{Standing, each_input_ends, one_reading};
 use dp_frame::one_first_frame;
+use dp_joiner::JoinStanding;
 use dp_lines::{StepRule, further_step, one_end, whole_lines};
 use dp_schedule::one_join_action;
 

@@ -6,17 +6,14 @@ ghost use Rattle.dp_messages.specs.declared.message.Entry.{Entry as Item};
 ghost use Rattle.dp_script.specs.Counters.{counters};
 ghost use Rattle.dp_joining.specs.Leaves.{FaultMatchesJoin, IsWelcome, JoinLeaves};
 ghost use Rattle.dp_joining.specs.Leaves.{ReadsNoFurther, WaitsUnread};
-ghost use Rattle.dp_joining.specs.Partings.{TakesLeave, SaysFarewell};
-ghost use Rattle.dp_joining.specs.Steps.{IsReady, Seen, seen, source_at};
+ghost use Rattle.dp_joining.specs.Partings.{TakesLeave};
+ghost use Rattle.dp_joiner.specs.Steps.{IsReady, Seen, seen};
 
-use crate::greeting::{Greeting, greet};
-use crate::joiner::Joiner;
-use crate::sending::send;
-use crate::stops::JoinStop;
+use crate::machine::JoinMachine;
 use dp_io::{Sink, Source};
+use dp_joiner::{JoinStop, Joiner, greet};
 use dp_lines::{RunEnd, further_step, whole_lines};
-use dp_messages::Msg;
-use dp_msg_meta::{Control, Text};
+use dp_msg_meta::Text;
 use dp_script::{ScriptEnd, run_lines};
 use dp_shown::ClientBoard;
 use dp_steps::Steps;
@@ -25,9 +22,6 @@ use std::sync::ledger::Ledger;
 
 /// How many bytes of a script count: 64 MiB.
 const SCRIPT_LIMIT: usize = 1 << 26;
-
-/// The reason of a Disconnect by which a client leaves.
-const LEAVING: u8 = 0;
 
 /// How a run over a link has ended, and the link.
 #[derive(Drop)]
@@ -98,43 +92,13 @@ pub fn join_link<
     let (mut rx, mut tx) = link;
     match greet::<B, R, S>(alloc, name, &mut rx, &mut tx) {
         Ok(greeting) => {
-            let joiner = joiner_of(alloc, greeting, rx, tx);
+            let joiner = Joiner::new(alloc, greeting, rx, tx);
             do_script(joiner, input, output, draws, tiles)
         }
         Err(stop) => {
             let end = stop.run_end();
             Joined { end, rx, tx }
         }
-    }
-}
-
-/// The client over its link.
-fn joiner_of<B: ClientBoard, R: Source, S: Sink>(
-    alloc: Global,
-    greeting: Greeting<B>,
-    rx: R,
-    tx: S,
-) -> Joiner<B, R, S>
-    ensures { result ≡ record {
-      client = greeting.client;
-      chats = greeting.chats;
-      written = S.held tx;
-      write_faults = S.faults tx;
-      source = source_at R.left R.faults greeting.reader rx;
-    } }
-{
-    let Greeting {
-        client,
-        chats,
-        reader,
-    } = greeting;
-    Joiner {
-        alloc,
-        client,
-        chats,
-        reader,
-        rx,
-        tx,
     }
 }
 
@@ -189,18 +153,20 @@ fn do_script<
         (seen O.held O.faults joiner output.old draws.old tiles.old) welcome
         → first.print_faults ≤ O.faults output.new }
 {
-    further_step::<Joiner<B, R, S>>();
-    let mut joiner = joiner;
+    further_step::<JoinMachine<B, R, S>>();
     let alloc = joiner.alloc();
+    let mut machine = JoinMachine { joiner };
     let ended = run_lines(
         alloc,
         SCRIPT_LIMIT,
         input,
-        &mut joiner,
+        &mut machine,
         output,
         draws,
         tiles,
     );
+    let JoinMachine { joiner } = machine;
+    let mut joiner = joiner;
     let end = leave(&mut joiner, ended);
     let (rx, tx) = joiner.into_link();
     Joined { end, rx, tx }
@@ -216,25 +182,11 @@ fn leave<B: ClientBoard, R: Source, S: Sink>(
     ensures source { joiner.new.source ≡ joiner.old.source }
 {
     match ended {
-        ScriptEnd::Done => farewell(joiner),
+        ScriptEnd::Done => joiner.farewell(),
         ScriptEnd::BadLine(number) => RunEnd::BadLine(number),
         ScriptEnd::ReadFault => RunEnd::ReadFault,
         ScriptEnd::Long => RunEnd::Long,
         ScriptEnd::Memory => RunEnd::Memory,
         ScriptEnd::Ended(stop) => stop.run_end(),
-    }
-}
-
-/// Says that the client leaves. How the run ends.
-fn farewell<B: ClientBoard, R: Source, S: Sink>(joiner: &mut Joiner<B, R, S>) -> RunEnd
-    ensures says { SaysFarewell joiner.old.written joiner.new.written
-        joiner.old.write_faults joiner.new.write_faults joiner.old.client.user result }
-    ensures source { joiner.new.source ≡ joiner.old.source }
-{
-    let user = joiner.client.user();
-    let msg = Msg::Control(Control::Disconnect { reason: LEAVING });
-    match send(joiner.alloc, user, msg, &mut joiner.tx) {
-        Ok(()) => RunEnd::Done,
-        Err(stop) => stop.run_end(),
     }
 }

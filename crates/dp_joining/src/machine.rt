@@ -1,8 +1,7 @@
 //! The lines of a script, done by a client over a link.
 
-use crate::joiner::Joiner;
-use crate::stops::JoinStop;
 use dp_io::{Sink, Source};
+use dp_joiner::{JoinStop, Joiner};
 use dp_lines::Line;
 use dp_schedule::{one_action, read_join_action};
 use dp_script::{LineMachine, Undone};
@@ -10,7 +9,12 @@ use dp_shown::ClientBoard;
 use dp_steps::Steps;
 use std::sync::ledger::Ledger;
 
-impl<B: ClientBoard, R: Source, S: Sink> dp_lines::StepRule for Joiner<B, R, S> {
+/// The machine of a script: a client over a link does its lines.
+pub(crate) struct JoinMachine<B: ClientBoard, R: Source, S: Sink> {
+    pub joiner: Joiner<B, R, S>,
+}
+
+impl<B: ClientBoard, R: Source, S: Sink> dp_lines::StepRule for JoinMachine<B, R, S> {
     ghost use Rattle.dp_joining.specs.Outcomes.{IsJoinStep};
 
     ghost is_step = { IsJoinStep };
@@ -20,17 +24,17 @@ impl<B: ClientBoard, R: Source, S: Sink, O: Sink, D: Ledger, T: Ledger> LineMach
     O,
     Steps<D>,
     Steps<T>,
-> for Joiner<B, R, S> {
-    ghost use Rattle.dp_joining.specs.Scripts.{HasDone, HasEnded};
-    ghost use Rattle.dp_joining.specs.Steps.{IsReady, seen};
+> for JoinMachine<B, R, S> {
+    ghost use Rattle.dp_joiner.specs.Steps.{IsReady};
+    ghost use Rattle.dp_joining.specs.Scripts.{HasDone, HasEnded, seen_by};
 
     type End = JoinStop;
 
-    ghost is_ready = { λ joiner. IsReady joiner.client joiner.source };
+    ghost is_ready = { λ machine. IsReady machine.joiner.client machine.joiner.source };
 
-    ghost has_done = { HasDone (seen O.held O.faults) };
+    ghost has_done = { HasDone (seen_by O.held O.faults) };
 
-    ghost has_ended = { HasEnded (seen O.held O.faults) };
+    ghost has_ended = { HasEnded (seen_by O.held O.faults) };
 
     fn do_line(
         &mut self,
@@ -40,8 +44,8 @@ impl<B: ClientBoard, R: Source, S: Sink, O: Sink, D: Ledger, T: Ledger> LineMach
         tiles: &mut Steps<T>,
     ) -> Result<(), Undone<JoinStop>> {
         one_action();
-        match read_join_action(self.alloc(), line.bytes.as_slice()) {
-            Ok(Some(action)) => match self.act(action, output, draws, tiles) {
+        match read_join_action(self.joiner.alloc(), line.bytes.as_slice()) {
+            Ok(Some(action)) => match self.joiner.act(action, output, draws, tiles) {
                 Ok(()) => Ok(()),
                 Err(stop) => Err(Undone::Ended(stop)),
             },

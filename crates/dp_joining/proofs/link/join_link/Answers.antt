@@ -10,8 +10,8 @@ returns-in-Ok-clause-leaves g c =
     c.do_script.ensures.leaves c.args.name.now (g.R.Source.left c.args.link.0) _ _
     (welcomed_by g.O.Sink.held g.O.Sink.faults c.args.output.now c.args.draws.now c.args.tiles.now
     c.args.name.now (g.R.Source.left c.args.link.0) (g.R.Source.faults c.args.link.0)
-    (g.S.Sink.held c.args.link.1) (g.S.Sink.faults c.args.link.1) c.joiner_of-joiner.result _
-    c.joiner_of-joiner.ensures c.in-Ok.ensures.welcome c.in-Ok.ensures.chats
+    (g.S.Sink.held c.args.link.1) (g.S.Sink.faults c.args.link.1) c.new-joiner.result _
+    c.new-joiner.ensures c.in-Ok.ensures.welcome c.in-Ok.ensures.chats
     c.in-Ok.ensures.hello c.in-Ok.ensures.sink)
 
 pub returns-in-Ok-clause-fault : goal.returns-in-Ok-clause-fault
@@ -19,8 +19,8 @@ returns-in-Ok-clause-fault g c =
     c.do_script.ensures.fault c.args.name.now (g.R.Source.left c.args.link.0) _ _
     (welcomed_by g.O.Sink.held g.O.Sink.faults c.args.output.now c.args.draws.now c.args.tiles.now
     c.args.name.now (g.R.Source.left c.args.link.0) (g.R.Source.faults c.args.link.0)
-    (g.S.Sink.held c.args.link.1) (g.S.Sink.faults c.args.link.1) c.joiner_of-joiner.result _
-    c.joiner_of-joiner.ensures c.in-Ok.ensures.welcome c.in-Ok.ensures.chats
+    (g.S.Sink.held c.args.link.1) (g.S.Sink.faults c.args.link.1) c.new-joiner.result _
+    c.new-joiner.ensures c.in-Ok.ensures.welcome c.in-Ok.ensures.chats
     c.in-Ok.ensures.hello c.in-Ok.ensures.sink)
 
 pub returns-in-Ok-clause-output_later : goal.returns-in-Ok-clause-output_later
@@ -28,8 +28,8 @@ returns-in-Ok-clause-output_later g c =
     c.do_script.ensures.output_later c.args.name.now (g.R.Source.left c.args.link.0) _ _
     (welcomed_by g.O.Sink.held g.O.Sink.faults c.args.output.now c.args.draws.now c.args.tiles.now
     c.args.name.now (g.R.Source.left c.args.link.0) (g.R.Source.faults c.args.link.0)
-    (g.S.Sink.held c.args.link.1) (g.S.Sink.faults c.args.link.1) c.joiner_of-joiner.result _
-    c.joiner_of-joiner.ensures c.in-Ok.ensures.welcome c.in-Ok.ensures.chats
+    (g.S.Sink.held c.args.link.1) (g.S.Sink.faults c.args.link.1) c.new-joiner.result _
+    c.new-joiner.ensures c.in-Ok.ensures.welcome c.in-Ok.ensures.chats
     c.in-Ok.ensures.hello c.in-Ok.ensures.sink)
 
 pub returns-in-Err-clause-leaves : goal.returns-in-Err-clause-leaves
