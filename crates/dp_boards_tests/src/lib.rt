@@ -1,5 +1,5 @@
-//! The tests of which commands of a history are drawn, and of rollbacks, boards that trail and forks
-//! over rows of numbers. They stand on no picture, so a change of pixels or layers proves none again.
+//! The tests of which commands of a history are drawn, and of rollbacks, boards that trail and
+//! forks over rows of numbers. They use no pixels and no layers.
 #![tactic(auto)]
 
 #[cfg(test)]

@@ -21,22 +21,26 @@ use std::sync::ledger::{Blank, Ledger};
 
 const RED: u32 = 0xffff_0000;
 
-/// The commands that make a canvas of 2 by 2 with a layer, whose upper left pixel is red.
-fn commands(alloc: Global) -> [Draw; 3] {
-    [
-        Draw::CanvasResize {
+/// How many commands make a canvas.
+const COMMANDS: usize = 3;
+
+/// The command at a place of those that make a canvas of 2 by 2 with a layer, whose upper left
+/// pixel is red.
+fn command_at(alloc: Global, place: usize) -> Draw {
+    match place {
+        0 => Draw::CanvasResize {
             top: 0,
             right: 2,
             bottom: 2,
             left: 0,
         },
-        Draw::LayerCreate {
+        1 => Draw::LayerCreate {
             id: 1,
             parent: 0,
             group: false,
             title: Title::new(alloc),
         },
-        Draw::FillRect {
+        _ => Draw::FillRect {
             layer: 1,
             mode: 1,
             x: 0,
@@ -45,7 +49,7 @@ fn commands(alloc: Global) -> [Draw; 3] {
             h: 1,
             color: RED,
         },
-    ]
+    }
 }
 
 /// Takes a counter at one.
@@ -87,6 +91,19 @@ fn check_upper_row<B: BoardView>(rt: &impl Abort, alloc: Global, board: &B, want
     assert!(rt; board.background() == 0);
 }
 
+/// Draws the commands on a board.
+fn draw_all<B: Board<Op = Draw>, D: Ledger, T: Ledger>(
+    rt: &impl Abort,
+    alloc: Global,
+    board: &mut B,
+    draws: &mut Steps<D>,
+    tiles: &mut Steps<T>,
+) {
+    for place in 0..COMMANDS {
+        draw(rt, board, command_at(alloc, place), draws, tiles);
+    }
+}
+
 /// A second board is equal, and stays as it is when the first one changes.
 fn check_share<B: Board<Op = Draw> + BoardView, D: Ledger, T: Ledger>(
     rt: &impl Abort,
@@ -95,9 +112,7 @@ fn check_share<B: Board<Op = Draw> + BoardView, D: Ledger, T: Ledger>(
     draws: &mut Steps<D>,
     tiles: &mut Steps<T>,
 ) {
-    for command in commands(alloc) {
-        draw(rt, board, command, draws, tiles);
-    }
+    draw_all(rt, alloc, board, draws, tiles);
     let other = board.share(draws, tiles).expect(rt, "memory");
     draw(rt, board, Draw::LayerDelete { id: 1 }, draws, tiles);
     check_upper_row(rt, alloc, &other, "R.");
@@ -120,8 +135,8 @@ fn draw<B: Board<Op = Draw>, D: Ledger, T: Ledger>(
 /// The entries of the commands.
 fn entries_of(rt: &impl Abort, alloc: Global) -> Vec<Entry> {
     let mut entries = Vec::new(alloc);
-    for command in commands(alloc) {
-        let msg = Msg::Draw(command);
+    for place in 0..COMMANDS {
+        let msg = Msg::Draw(command_at(alloc, place));
         entries.push(Entry { user: 1, msg }).expect(rt, "memory");
     }
     entries

@@ -4,7 +4,7 @@ use dp_acl::Rights;
 use dp_frame::{Frame, Octets};
 use dp_lines::hex_of;
 use dp_messages::{Entry, decode};
-use dp_msg_meta::{Ids, kind_of_meta};
+use dp_msg_meta::{Ids, Meta, kind_of_meta};
 use std::alloc::Global;
 use std::process::Abort;
 
@@ -81,15 +81,28 @@ fn rights_of_control_messages(rt: HostRuntime) {
     drop(rights);
 }
 
+/// The messages that carry the rights of users 1 to 3.
+fn carried_of(rt: &impl Abort, alloc: Global, rights: &mut Rights) -> Vec<Meta> {
+    rights.reserve(1).expect(rt, "memory");
+    let present = Vec::from_slice(alloc, &[1, 2, 3]).expect(rt, "memory");
+    let present = Ids::from_vec(present);
+    let carried = rights.carry(&present);
+    drop(present);
+    carried.expect(rt, "memory")
+}
+
+/// The messages have these kinds.
+fn check_kinds(rt: &impl Abort, carried: &[Meta], kinds: &[u8; 4]) {
+    assert!(rt; carried.len() == 4);
+    for (meta, kind) in carried.iter().zip(kinds) {
+        check(rt, kind_of_meta(meta) == *kind, 0, *kind);
+    }
+}
+
 /// Who is operator, and the kinds of the messages that carry the rights of users 1 to 3.
 fn check_carried(rt: &impl Abort, alloc: Global, rights: &mut Rights) {
     assert!(rt; rights.is_operator(1) && !rights.is_operator(2));
-    rights.reserve(1).expect(rt, "memory");
-    let present = Vec::from_slice(alloc, &[1, 2, 3]).expect(rt, "memory");
-    let carried = rights.carry(&Ids::from_vec(present)).expect(rt, "memory");
-    assert!(rt; carried.len() == 4);
-    for (meta, kind) in carried.iter().zip(&[34, 36, 66, 68]) {
-        check(rt, kind_of_meta(meta) == *kind, 0, *kind);
-    }
+    let carried = carried_of(rt, alloc, rights);
+    check_kinds(rt, &carried, &[34, 36, 66, 68]);
     drop(carried);
 }
