@@ -105,7 +105,8 @@ world_run = record {
 abbrev pub drill_run : ℕ → ℕ → Run
 drill_run seed rounds = record {
   due = λ bytes answer. answer ≡ answer_for Done (drill_text seed rounds);
-  leaves = λ input left old new c end. Keeps input left × DrillLeaves seed rounds old new c end;
+  leaves = λ input left old new c end. Keeps input left
+      × DrillLeaves seed rounds old new c.draws c.draws_now c.tiles c.tiles_now end;
   reads = ⊥;
 }
 

@@ -8,7 +8,6 @@ use Rattle.dp_lines.specs.declared.run_end.RunEnd.TheVariants.{Done, BadLine, Re
 use Rattle.dp_lines.specs.declared.run_end.RunEnd.TheVariants.{LinkFault, Memory, Long, Truncated}
 use Rattle.dp_lines.specs.declared.run_end.RunEnd.TheVariants.{BadMessage, Closed, BadHeader}
 use Rattle.dp_pixels.specs.Feet.{reach}
-use Rattle.dp_script.specs.Counters.{Counters}
 use Rattle.dp_drill.specs.Summary.{drill_due, drill_text}
 
 -- the output by how a run ends: it has the text, or after a fault a prefix of it, or nothing
@@ -26,8 +25,9 @@ WritesText text old new Closed = ⊥
 WritesText text old new BadHeader = ⊥
 
 -- What a drill with this end leaves on the output. It drew each command that is due at most once,
--- and made no more tiles than these reach.
-pub record DrillLeaves (seed count : ℕ) (old new : Option (List ℕ)) (c : Counters) (end : RunEnd)
-    : Type 0 where
+-- and made no more tiles than these reach. The counters are those of draws and of tiles, before and
+-- now.
+pub record DrillLeaves (seed count : ℕ) (old new : Option (List ℕ))
+    (draws draws_now tiles tiles_now : ℕ) (end : RunEnd) : Type 0 where
   pub text : WritesText (drill_text seed count) old new end
-  pub few : CountsFew reach (drill_due seed count) c.draws c.draws_now c.tiles c.tiles_now
+  pub few : CountsFew reach (drill_due seed count) draws draws_now tiles tiles_now

@@ -74,7 +74,9 @@ fn serve(session: &mut Session<SureKeeper>, event: Event) -> Result<Reply, Alloc
     requires { session.old.first_fault ≡ None }
     ensures { OnOk result (session.new ≡ sure_step session.old event) }
 {
-    session.step_surely(&event)
+    let reply = session.step_surely(&event);
+    drop(event);
+    reply
 }
 
 /// A session, and the messages on their way from each client, in the order of their joins.

@@ -37,7 +37,9 @@ pub(crate) fn paint_history<R: Threads + Sync, G: Gate, D: Ledger, T: Ledger>(
         draws.old draws.new tiles.old tiles.new }
 {
     let commands = drawn_commands(alloc, entries)?;
-    paint(rt, alloc, &commands, workers, draws, tiles)
+    let canvas = paint(rt, alloc, &commands, workers, draws, tiles);
+    drop(commands);
+    canvas
 }
 
 /// A canvas on which these commands were drawn, by workers.
@@ -53,8 +55,13 @@ fn paint<R: Threads + Sync, G: Gate, D: Ledger, T: Ledger>(
     ensures few { CountsFew reach commands.now draws.old draws.new tiles.old tiles.new }
 {
     let mut canvas = Canvas::new(alloc);
-    canvas.draw_batch(rt, commands, workers, draws, tiles)?;
-    Ok(canvas)
+    match canvas.draw_batch(rt, commands, workers, draws, tiles) {
+        Ok(()) => Ok(canvas),
+        Err(error) => {
+            drop(canvas);
+            Err(error)
+        }
+    }
 }
 
 /// The commands of a history that aren't undone, in its order.
@@ -63,7 +70,9 @@ fn drawn_commands(alloc: Global, entries: &[Entry]) -> Result<Vec<Draw>, AllocEr
         ≡ drawn_commands undo_depth (map user_act_of entries.now)) }
 {
     let acts = acts_of(alloc, entries)?;
-    drawn_of(alloc, &acts)
+    let drawn = drawn_of(alloc, &acts);
+    drop(acts);
+    drawn
 }
 
 /// The commands of the acts that aren't undone, in their order.

@@ -7,7 +7,6 @@ ghost use Rattle.dp_lines.specs.RunEnds.{FaultMatchesEnd};
 ghost use Rattle.dp_pixels.specs.Feet.{reach};
 ghost use Rattle.dp_plain.specs.Picture.{picture};
 ghost use Rattle.dp_replay.specs.Replay.{replay, undo_depth, user_act_of};
-ghost use Rattle.dp_script.specs.Counters.{counters};
 ghost use Rattle.dp_drill.specs.Flow.{first_flow};
 ghost use Rattle.dp_drill.specs.Leaves.{DrillLeaves};
 ghost use Rattle.dp_drill.specs.Summary.{drill_due, drill_history, drill_text, summary, sums_of};
@@ -55,7 +54,7 @@ pub fn run_drill<R: Threads + Sync, O: Sink, G: Gate, D: Ledger, T: Ledger>(
     tiles: &mut Steps<T>,
 ) -> RunEnd
     ensures leaves { DrillLeaves drill.seed drill.rounds (O.held output.old) (O.held output.new)
-        (counters draws.old draws.new tiles.old tiles.new) result }
+        draws.old draws.new tiles.old tiles.new result }
     ensures fault { (n : ℕ)
         → FaultMatchesEnd n n (O.faults output.old) (O.faults output.new) result }
     ensures output_later { O.faults output.old ≤ O.faults output.new }
@@ -83,7 +82,9 @@ fn drill_text<R: Threads + Sync, G: Gate, D: Ledger, T: Ledger>(
         draws.old draws.new tiles.old tiles.new }
 {
     let entries = drill_history(alloc, drill)?;
-    summary_of(rt, alloc, drill, entries.as_slice(), workers, draws, tiles)
+    let text = summary_of(rt, alloc, drill, entries.as_slice(), workers, draws, tiles);
+    drop(entries);
+    text
 }
 
 /// The summary of a drill with this history.
@@ -103,6 +104,7 @@ fn summary_of<R: Threads + Sync, G: Gate, D: Ledger, T: Ledger>(
 {
     let canvas = paint_history(rt, alloc, entries, workers, draws, tiles)?;
     let sums = sums_of(&canvas);
+    drop(canvas);
     summary(alloc, drill.seed, drill.rounds, entries.len(), sums)
 }
 
@@ -111,7 +113,9 @@ fn drill_history(alloc: Global, drill: Drill) -> Result<Entries, AllocError>
     ensures { IfOk result (λ entries. entries ≡ drill_history drill.seed drill.rounds) }
 {
     let mut flow = Flow::new(alloc)?;
-    play_drill(alloc, &mut flow, drill)
+    let entries = play_drill(alloc, &mut flow, drill);
+    drop(flow);
+    entries
 }
 
 /// The history after a drill. No `?` holds the session.
