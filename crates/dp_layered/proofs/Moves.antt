@@ -8,7 +8,7 @@ use Rattle.dp_blend.specs.Color.{Channels, clear}
 use Rattle.dp_blend.specs.Canvas.{below, canvas_of}
 use Rattle.dp_pixels.specs.Commands.{pixel_of}
 use Rattle.dp_pixels.specs.Resizes.{pixels_shifted}
-use Rattle.dp_layered.specs.Moves.{pixel_in, row_moved}
+use Rattle.dp_layered.specs.Moves.{pixel_in_row, row_moved}
 use Rattle.dp_blend.proofs.Canvas.{is_canvas_of}
 use Rattle.dp_plain.proofs.Canvas.{canvas_of-more, row_more}
 
@@ -27,19 +27,19 @@ difference place offset = to_z w64
 -- one pixel more of a row that moves
 pub row_moved_more : (before now row : List Channels) (left place : ℤ) (n : ℕ) (p : Channels)
     → now ≡ before ++ row_moved n row left
-    → p ≡ pixel_in row place → place ≡ pos n -ℤ left
+    → p ≡ pixel_in_row row place → place ≡ pos n -ℤ left
     → now ++ p ∷ [] ≡ before ++ row_moved (n + 1) row left
 row_moved_more before now row left place n p is pixel at =
     ap (λ ps. ps ++ p ∷ []) is
     ∙ (append_assoc before (row_moved n row left) (p ∷ [])
-    ∙ (ap (λ q. before ++ (row_moved n row left ++ q ∷ [])) (pixel ∙ ap (λ z. pixel_in row z) at)
-    ∙ ap (λ ps. before ++ ps) (sym (row_more (λ x. pixel_in row (pos x -ℤ left)) n))))
+    ∙ (ap (λ q. before ++ (row_moved n row left ++ q ∷ [])) (pixel ∙ ap (λ z. pixel_in_row row z) at)
+    ∙ ap (λ ps. before ++ ps) (sym (row_more (λ x. pixel_in_row row (pos x -ℤ left)) n))))
 
 -- one row more of a canvas that moves
 pub pixels_shifted_more : (width height : ℕ) (pixels now row : List Channels) (new_width k : ℕ)
     (left top y : ℤ)
     → now ≡ pixels_shifted width height pixels new_width k left top → y ≡ pos k -ℤ top
-    → ((x : ℤ) → pixel_in row x ≡ pixel_of width height pixels x y)
+    → ((x : ℤ) → pixel_in_row row x ≡ pixel_of width height pixels x y)
     → now ++ row_moved new_width row left
     ≡ pixels_shifted width height pixels new_width (k + 1) left top
 pixels_shifted_more width height pixels now row new_width k left top y is place same =

@@ -2,7 +2,7 @@
 
 ghost use Rattle.std.specs.Prelude.{◌≡◌, ◌*◌, ◌≤◌, ℤ, ◌++◌, length, IfOk, OnOk};
 ghost use Rattle.dp_pixels.specs.Commands.{pixel_of};
-ghost use Rattle.dp_layered.specs.Moves.{pixel_in, row_moved};
+ghost use Rattle.dp_layered.specs.Moves.{pixel_in_row, row_moved};
 ghost use Rattle.dp_pixels.specs.Resizes.{pixels_resized};
 
 use dp_blend::Pixel;
@@ -11,8 +11,8 @@ use std::alloc::{AllocError, Global};
 
 /// The pixel at a place of a row, clear outside it.
 #[inline]
-fn pixel_in(row: &[Pixel], x: i64) -> Pixel
-    ensures { result ≡ pixel_in row.now x }
+fn pixel_in_row(row: &[Pixel], x: i64) -> Pixel
+    ensures { result ≡ pixel_in_row row.now x }
 {
     if x >= 0 && (x as usize) < row.len() {
         row[x as usize]
@@ -24,7 +24,7 @@ fn pixel_in(row: &[Pixel], x: i64) -> Pixel
 /// A row of the canvas, empty above and below it.
 fn row_at(pixels: &[Pixel], width: usize, height: usize, y: i64) -> &[Pixel]
     requires { length pixels.now ≡ width * height }
-    ensures { (x : ℤ) → pixel_in result.now x ≡ pixel_of width height pixels.now x y }
+    ensures { (x : ℤ) → pixel_in_row result.now x ≡ pixel_of width height pixels.now x y }
 {
     if y >= 0 && (y as usize) < height {
         let start = y as usize * width;
@@ -46,7 +46,7 @@ fn push_moved_row(
     ensures { OnOk result (moved.new.items ≡ moved.old.items ++ row_moved width row.now left) }
 {
     for x in 0..width {
-        moved.push(pixel_in(row, x as i64 - left as i64))?;
+        moved.push(pixel_in_row(row, x as i64 - left as i64))?;
     }
     Ok(())
 }

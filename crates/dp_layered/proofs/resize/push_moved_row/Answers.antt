@@ -9,5 +9,5 @@ loop-x-preserved c =
     let left : ℤ = to_z w32 (of_z w32 c.args.left) in
     c.in_ok-push.ensures.items
     ∙ row_moved_more c.args.moved.now.items c.loop-x.moved.items c.args.row.now left
-    (difference c.loop-x.x c.args.left) c.loop-x.x c.pixel_in.result
-    c.loop-x.invariant c.pixel_in.ensures (omega (arith, ints))
+    (difference c.loop-x.x c.args.left) c.loop-x.x c.pixel_in_row.result
+    c.loop-x.invariant c.pixel_in_row.ensures (omega (arith, ints))
