@@ -7,7 +7,7 @@ use Rattle.std.specs.Io.KnownBytes.{IsAtEnd}
 use Rattle.dp_hall.specs.Names.{AreDistinct}
 use Rattle.dp_lines.specs.declared.run_end.RunEnd.{RunEnd}
 use Rattle.dp_lines.specs.declared.run_end.RunEnd.TheVariants.{Done, Memory, Truncated}
-use Rattle.dp_script.specs.Counters.{Counters}
+use Rattle.dp_line_machine.specs.Counters.{Counters}
 use Rattle.dp_serve_laws.specs.Reported.{reported}
 use Rattle.dp_words.specs.CommandLines.{AsksFor}
 use Rattle.dp_words.specs.declared.command_line.CommandLine.{CommandLine}

@@ -3,10 +3,10 @@ use Rattle.std.specs.Prelude.{◌≡◌, ℕ, List, ◌++◌}
 use Rattle.dp_lines.specs.declared.line.Line.{Line}
 use Rattle.dp_lines.specs.Ends.{seen}
 use Rattle.dp_schedule.specs.declared.action.Action.{Action}
-use Rattle.dp_script.specs.Limits.{lines_limit}
+use Rattle.dp_line_machine.specs.Limits.{lines_limit}
 use Rattle.dp_sim.specs.Headline.{Headline}
 use Rattle.dp_sim.specs.World.{world_after}
-use Rattle.dp_world.specs.Schedule.{AskFor}
+use Rattle.dp_world_lines.specs.Schedule.{AskFor}
 use Rattle.dp_world_laws.specs.Unended.{AskUnended, HasPlainFork}
 
 -- the headline holds of the world after the first lines of an input of these bytes, however many:

@@ -16,7 +16,7 @@ ghost use Rattle.dp_words.specs.declared.command_line.CommandLine.TheVariants.{L
 ghost use Rattle.dp_words.specs.declared.command_line.LocalCommand.{LocalCommand};
 ghost use Rattle.dp_words.specs.declared.command_line.Service.{Service};
 ghost use Rattle.dp_lines.specs.RunEnds.{FaultMatchesEnd};
-ghost use Rattle.dp_script.specs.Counters.{counters};
+ghost use Rattle.dp_line_machine.specs.Counters.{counters};
 ghost use Rattle.dp_world.specs.RunEnds.{DrawsByDue, GrowsByDue};
 ghost use Rattle.dp_app.specs.Stores.{HoldsKept};
 ghost use Rattle.dp_app.specs.Worlds.{HasHeadline, HasPlainForks};

@@ -9,7 +9,7 @@ use Rattle.dp_lines.specs.declared.run_end.RunEnd.TheVariants.{WriteFault}
 use Rattle.dp_lines.specs.declared.line.Line.{Line}
 use Rattle.dp_lines.specs.Ends.{LinesEnd}
 use Rattle.dp_schedule.specs.declared.action.Action.{Action}
-use Rattle.dp_script.specs.Counters.{Counters}
+use Rattle.dp_line_machine.specs.Counters.{Counters}
 use Rattle.dp_sim.specs.Report.{report}
 use Rattle.dp_viewer.proofs.Given.{appends_nothing, whole_picture}
 use Rattle.dp_viewer.specs.Pictures.{PictureLeaves, picture_text}
@@ -20,7 +20,7 @@ use Rattle.dp_words.specs.declared.command_line.LocalCommand.TheVariants.{Drill}
 use Rattle.dp_world.proofs.Due.{no_steps, whole_report}
 use Rattle.dp_world.proofs.Leaving.{nothing_leaves}
 use Rattle.dp_world.specs.RunEnds.{WorldLeaves, lines_end_of}
-use Rattle.dp_world.specs.Schedule.{WorldComesTo}
+use Rattle.dp_world_lines.specs.Schedule.{WorldComesTo}
 use Rattle.dp_drill.specs.Leaves.{WritesText}
 use Rattle.dp_drill.specs.Summary.{drill_text}
 use Rattle.dp_endings.specs.Answer.{answer_for}

@@ -4,7 +4,7 @@ use Rattle.std.specs.Io.KnownBytes.{Keeps}
 use Rattle.dp_keeper.specs.declared.row.Row.{Row}
 use Rattle.dp_epochs.specs.declared.event.Event.{Event}
 use Rattle.dp_epochs.specs.declared.event.ShutAt.{ShutAt}
-use Rattle.dp_script.specs.Counters.{Counters, NothingIsDrawn}
+use Rattle.dp_line_machine.specs.Counters.{Counters, NothingIsDrawn}
 use Rattle.dp_serve.specs.Serving.{Seen}
 use Rattle.dp_wire.specs.Links.{Links}
 use Rattle.dp_serve.specs.declared.report.LinkReport.{LinkReport}

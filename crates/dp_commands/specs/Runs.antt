@@ -12,7 +12,7 @@ use Rattle.dp_lines.specs.declared.run_end.RunEnd.TheVariants.{Closed, BadHeader
 use Rattle.dp_lines.specs.Ends.{LinesEnd}
 use Rattle.dp_messages.specs.declared.message.Entry.{Entry}
 use Rattle.dp_schedule.specs.declared.action.Action.{Action}
-use Rattle.dp_script.specs.Counters.{Counters, NothingIsDrawn}
+use Rattle.dp_line_machine.specs.Counters.{Counters, NothingIsDrawn}
 use Rattle.dp_sim.specs.Report.{report}
 use Rattle.dp_viewer.specs.Pictures.{PictureLeaves, picture_text}
 use Rattle.dp_viewer.specs.Ways.{Way, play_way, replay_way}
@@ -20,7 +20,7 @@ use Rattle.dp_words.specs.declared.command_line.LocalCommand.{LocalCommand}
 use Rattle.dp_words.specs.declared.command_line.LocalCommand.TheVariants.{Replay, World, Play}
 use Rattle.dp_words.specs.declared.command_line.LocalCommand.TheVariants.{Drill}
 use Rattle.dp_world.specs.RunEnds.{WorldLeaves, lines_end_of}
-use Rattle.dp_world.specs.Schedule.{WorldComesTo}
+use Rattle.dp_world_lines.specs.Schedule.{WorldComesTo}
 use Rattle.dp_endings.specs.Answer.{Answer, answer_for}
 
 -- A command on an input and an output: the answer that an input of these bytes is due, and what a

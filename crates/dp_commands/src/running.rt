@@ -2,7 +2,7 @@
 
 ghost use Rattle.std.specs.Prelude.{◌≡◌, ◌≢◌, ◌≤◌, ℕ, List, Option, length};
 ghost use Rattle.dp_lines.specs.RunEnds.{FaultMatchesEnd};
-ghost use Rattle.dp_script.specs.Counters.{counters};
+ghost use Rattle.dp_line_machine.specs.Counters.{counters};
 ghost use Rattle.dp_words.specs.CommandLines.{FitsLimits};
 ghost use Rattle.dp_words.specs.declared.command_line.CommandLine.TheVariants.{Join, Listen};
 ghost use Rattle.dp_words.specs.declared.command_line.Service.{Service};

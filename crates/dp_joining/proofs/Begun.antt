@@ -18,9 +18,9 @@ use Rattle.dp_messages.specs.declared.message.Entry.{Entry}
 use Rattle.dp_pixels.specs.Feet.{reach}
 use Rattle.dp_schedule.specs.declared.join_action.JoinAction.{JoinAction}
 use Rattle.dp_screen.proofs.Leads.{counts_first}
-use Rattle.dp_script.specs.Counters.{Counters}
+use Rattle.dp_line_machine.specs.Counters.{Counters}
 use Rattle.dp_script.specs.Leaves.{AreFirstOf}
-use Rattle.dp_script.specs.Limits.{lines_limit}
+use Rattle.dp_line_machine.specs.Limits.{lines_limit}
 use Rattle.dp_joiner.specs.declared.stops.LinkCause.{LinkCause}
 use Rattle.dp_joiner.specs.Joining.{Joining, Progress, Goes, Waits, came_to, farewell_bytes, joined}
 use Rattle.dp_joining.specs.Leaves.{BeginsDue, GrowsTowards, IsParting, JoinLeaves, Traffic}

@@ -4,7 +4,7 @@ use Rattle.dp_io.proofs.Prefixes.{grows_whole}
 use Rattle.dp_lines.specs.declared.line.Line.{Line}
 use Rattle.dp_schedule.specs.declared.join_action.JoinAction.{JoinAction}
 use Rattle.dp_schedule.specs.JoinGrammar.{Asks}
-use Rattle.dp_script.specs.Moments.{Moment}
+use Rattle.dp_line_machine.specs.Moments.{Moment}
 use Rattle.dp_joiner.specs.declared.stops.JoinStop.{JoinStop}
 use Rattle.dp_joiner.specs.declared.stops.JoinStop.TheVariants.{Memory}
 use Rattle.dp_joiner.specs.Joining.{Joining, Waits, after_line, along, came_to, takeable}

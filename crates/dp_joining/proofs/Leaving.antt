@@ -17,13 +17,13 @@ use Rattle.dp_lines.specs.Ends.{AreSteps, IsDoable, LinesComeTo, LinesEnd, seen}
 use Rattle.dp_lines.specs.Ends as ends
 use Rattle.dp_messages.specs.declared.message.Entry.{Entry}
 use Rattle.dp_schedule.specs.declared.join_action.JoinAction.{JoinAction}
-use Rattle.dp_script.specs.declared.machine.ScriptEnd.{ScriptEnd}
-use Rattle.dp_script.specs.declared.machine.ScriptEnd.TheVariants.{Done, BadLine, ReadFault, Long}
-use Rattle.dp_script.specs.declared.machine.ScriptEnd.TheVariants.{Memory, Ended}
-use Rattle.dp_script.specs.Counters.{Counters, counters}
-use Rattle.dp_script.specs.Ends.{FaultMatchesInput}
+use Rattle.dp_line_machine.specs.declared.machine.ScriptEnd.{ScriptEnd}
+use Rattle.dp_line_machine.specs.declared.machine.ScriptEnd.TheVariants.{Done, BadLine, ReadFault, Long}
+use Rattle.dp_line_machine.specs.declared.machine.ScriptEnd.TheVariants.{Memory, Ended}
+use Rattle.dp_line_machine.specs.Counters.{Counters, counters}
+use Rattle.dp_line_machine.specs.Ends.{FaultMatchesInput}
 use Rattle.dp_script.specs.Leaves.{HoldsLines, AreFirstOf, IsNextOf, ScriptLeaves}
-use Rattle.dp_script.specs.Moments.{Moment}
+use Rattle.dp_line_machine.specs.Moments.{Moment}
 use Rattle.dp_lines.specs.TakenParts.{TookWithin}
 use Rattle.dp_joiner.specs.declared.stops.JoinStop.{JoinStop}
 use Rattle.dp_joiner.specs.declared.stops.JoinStop.TheVariants as stop
@@ -37,7 +37,7 @@ use Rattle.dp_joining.specs.Leaves.{WhereKnown, DrawsFew}
 use Rattle.dp_joiner.specs.Links.{BeginsWith, link_end}
 use Rattle.dp_joining.specs.Outcomes.{IsJoinStep, JoinComesTo, JoinOutcome, link_outcome}
 use Rattle.dp_joining.specs.Outcomes.{script_outcome}
-use Rattle.dp_script.specs.Limits.{lines_limit}
+use Rattle.dp_line_machine.specs.Limits.{lines_limit}
 use Rattle.dp_joiner.specs.Partings.{SaysFarewell}
 use Rattle.dp_joining.specs.Partings.{IsSilent, TakesLeave}
 use Rattle.dp_joining.specs.Scripts.{GoesTo, HasDone, HasEnded, IsBegun, StopsAlong, at}

@@ -11,7 +11,7 @@ use Rattle.dp_joiner.specs.declared.stops.LinkCause.{LinkCause}
 use Rattle.dp_joiner.specs.Joining.{Goes, Waits, joined}
 use Rattle.dp_joining.specs.Outcomes.{AllAsk, EndsByLink, EndsByScript, IsJoinStep, JoinComesTo}
 use Rattle.dp_joining.specs.Outcomes.{JoinOutcome, link_outcome, script_outcome}
-use Rattle.dp_script.specs.Limits.{lines_limit}
+use Rattle.dp_line_machine.specs.Limits.{lines_limit}
 use Rattle.dp_joiner.proofs.Prefixes.{IsFirstOf, begin_alike, first_more, first_nil}
 use Rattle.dp_joiner.proofs.Unique.{joined_goes, joined_waits}
 use Rattle.dp_joiner.proofs.LinkEnds.{LinkLaws, ends_by, ends_same, waits_not_goes}

@@ -13,7 +13,7 @@ use Rattle.dp_lines.specs.declared.line.Line.{Line}
 use Rattle.dp_lines.specs.Ends.{AreSteps, seen}
 use Rattle.dp_lines.specs.Lines.{ended, is_overlong, numbered, open_rest}
 use Rattle.dp_pixels.specs.Feet.{reach}
-use Rattle.dp_script.specs.Counters.{Counters, NothingIsDrawn}
+use Rattle.dp_line_machine.specs.Counters.{Counters, NothingIsDrawn}
 use Rattle.dp_script.specs.Leaves.{AreFirstOf}
 use Rattle.dp_wire.specs.Links.{HandsOut, Links, WhereKnown as WhereLinks}
 use Rattle.dp_joining.specs.Runs.{Returns}
@@ -26,7 +26,7 @@ use Rattle.dp_joining.specs.Leaves.{IsWelcome, JoinLeaves, ReadsNoFurther, Traff
 use Rattle.dp_joining.specs.Leaves.{WhereKnown, WritesAll, WritesPart, DrawsFew}
 use Rattle.dp_joiner.specs.Links.{BeginsWith, link_end}
 use Rattle.dp_joining.specs.Outcomes.{IsJoinStep, link_outcome}
-use Rattle.dp_script.specs.Limits.{lines_limit}
+use Rattle.dp_line_machine.specs.Limits.{lines_limit}
 use Rattle.dp_joiner.specs.Steps.{Linked, Seen, Shows, Source, seen as seen_at}
 use Rattle.dp_joiner.specs.Stops.{end_of}
 use Rattle.dp_joining.proofs.Leaving.{Writes, link_leaves}

@@ -15,10 +15,10 @@ use Rattle.dp_lines.specs.declared.run_end.RunEnd.TheVariants.{BadMessage, Close
 use Rattle.dp_lines.specs.Ends.{LinesComeTo, seen}
 use Rattle.dp_lines.specs.Ends as ends
 use Rattle.dp_schedule.specs.declared.join_action.JoinAction.{JoinAction}
-use Rattle.dp_script.specs.Counters.{Counters}
+use Rattle.dp_line_machine.specs.Counters.{Counters}
 use Rattle.dp_script.specs.Leaves.{HoldsLines, HoldsNoCause, AreFirstOf}
 use Rattle.dp_lines.specs.TakenParts.{TookWithin}
-use Rattle.dp_script.specs.Limits.{lines_limit}
+use Rattle.dp_line_machine.specs.Limits.{lines_limit}
 use Rattle.dp_joiner.specs.Joining.{Joining, Progress, Goes, came_to, farewell_bytes, greeted}
 use Rattle.dp_joiner.specs.Joining.{is_closed, joined, newcomer}
 use Rattle.dp_joiner.specs.Links.{BeginsWith}

@@ -13,7 +13,7 @@ use Rattle.dp_script.specs.Leaves.{AreFirstOf}
 use Rattle.dp_joiner.specs.declared.stops.LinkCause.{LinkCause}
 use Rattle.dp_joiner.specs.Joining.{Joining, Goes, Waits, farewell_bytes, joined}
 use Rattle.dp_joiner.specs.Links.{BeginsWith, EndsLink, link_end}
-use Rattle.dp_script.specs.Limits.{lines_limit}
+use Rattle.dp_line_machine.specs.Limits.{lines_limit}
 
 -- ---- the script
 

@@ -3,7 +3,7 @@ use Rattle.std.specs.Prelude.{◌≡◌, ◌⊎◌, ℕ, List, [], ◌∷◌, �
 use Rattle.dp_io.specs.Faults.{Rose}
 use Rattle.dp_lines.specs.declared.run_end.RunEnd.{RunEnd}
 use Rattle.dp_lines.specs.declared.run_end.RunEnd.TheVariants.{LinkFault, Memory}
-use Rattle.dp_script.specs.Counters.{Counters, NothingIsDrawn}
+use Rattle.dp_line_machine.specs.Counters.{Counters, NothingIsDrawn}
 use Rattle.dp_wire.specs.Links.{Links, WhereKnown}
 use Rattle.dp_joining.specs.Leaves.{BeginsDue, FaultMatchesJoin, JoinLeaves, ReadsNoFurther}
 use Rattle.dp_joining.specs.Leaves.{Traffic, WaitsUnread, WhereKnown as WhereRead}

@@ -3,7 +3,7 @@ use Rattle.std.specs.Prelude.{◌≡◌, ◌⊎◌, ℕ, List, [], ◌∷◌, �
 use Rattle.dp_lines.specs.declared.line.Line.{Line}
 use Rattle.dp_messages.specs.declared.message.Entry.{Entry}
 use Rattle.dp_schedule.specs.declared.join_action.JoinAction.{JoinAction}
-use Rattle.dp_script.specs.Moments.{Moment}
+use Rattle.dp_line_machine.specs.Moments.{Moment}
 use Rattle.dp_joiner.specs.declared.stops.JoinStop.{JoinStop}
 use Rattle.dp_joiner.specs.Joining.{Joining, Progress, Goes, Waits, along, came_to, takeable}
 use Rattle.dp_joiner.specs.Steps.{IsNoEntry, ReadsOn, ReadsUpTo, Seen, Stands, Stops, seen}

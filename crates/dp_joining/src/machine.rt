@@ -2,9 +2,9 @@
 
 use dp_io::{Sink, Source};
 use dp_joiner::{JoinStop, Joiner};
+use dp_line_machine::{LineMachine, Undone};
 use dp_lines::Line;
 use dp_schedule::{one_action, read_join_action};
-use dp_script::{LineMachine, Undone};
 use dp_shown::ClientBoard;
 use dp_steps::Steps;
 use std::sync::ledger::Ledger;

@@ -2,7 +2,7 @@
 
 ghost use Rattle.std.specs.Prelude.{◌≤◌, length};
 ghost use Rattle.dp_joining.specs.Runs.{RunLeaves};
-ghost use Rattle.dp_script.specs.Counters.{counters};
+ghost use Rattle.dp_line_machine.specs.Counters.{counters};
 
 use crate::laws::begun_is_due;
 use crate::link::{Joined, join_link};

@@ -16,10 +16,10 @@ use Rattle.dp_lines.specs.Ends.{AreSteps, seen}
 use Rattle.dp_lines.specs.Held.{Held, IsLeft, NextIsLong, ended_from, lines_from}
 use Rattle.dp_lines.specs.Lines.{ended, open_rest, if_any, is_overlong, line_limit, numbered}
 use Rattle.dp_lines.specs.TakenParts.{TookWithin}
-use Rattle.dp_script.specs.declared.machine.ScriptEnd.{ScriptEnd}
-use Rattle.dp_script.specs.declared.machine.ScriptEnd.TheVariants.{Done, BadLine, ReadFault, Long}
-use Rattle.dp_script.specs.declared.machine.ScriptEnd.TheVariants.{Memory, Ended}
-use Rattle.dp_script.specs.Ends.{FaultMatchesInput, IsOfLines}
+use Rattle.dp_line_machine.specs.declared.machine.ScriptEnd.{ScriptEnd}
+use Rattle.dp_line_machine.specs.declared.machine.ScriptEnd.TheVariants.{Done, BadLine, ReadFault, Long}
+use Rattle.dp_line_machine.specs.declared.machine.ScriptEnd.TheVariants.{Memory, Ended}
+use Rattle.dp_line_machine.specs.Ends.{FaultMatchesInput, IsOfLines}
 use Rattle.dp_script.specs.Leaves.{HoldsNoCause, HoldsLines, ScriptLeaves}
 use Rattle.dp_script.specs.Progress.{HasDone, HasRead, IsReading, IsEnding, StopsIn}
 use Rattle.dp_script.proofs.Called.{SeenCut, SeenWhole}

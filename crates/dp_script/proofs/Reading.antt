@@ -6,8 +6,8 @@ use Rattle.dp_lines.specs.declared.line.Line.{Line}
 use Rattle.dp_lines.specs.Ends.{AreSteps, seen}
 use Rattle.dp_lines.specs.Held.{Held, NextIsLong, ended_from, lines_from}
 use Rattle.dp_lines.specs.Lines.{ended, open_rest}
-use Rattle.dp_script.specs.declared.machine.ScriptEnd.{ScriptEnd}
-use Rattle.dp_script.specs.declared.machine.ScriptEnd.TheVariants.{BadLine, Memory, Ended}
+use Rattle.dp_line_machine.specs.declared.machine.ScriptEnd.{ScriptEnd}
+use Rattle.dp_line_machine.specs.declared.machine.ScriptEnd.TheVariants.{BadLine, Memory, Ended}
 use Rattle.dp_script.specs.Progress.{HasDone, IsReading, IsEnding, StopsAfter, StopsIn}
 use Rattle.dp_script.proofs.Called.{LeftFed, LeftGiven, SeenGiven, SeenLong}
 

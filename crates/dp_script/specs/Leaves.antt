@@ -7,9 +7,9 @@ use Rattle.dp_lines.specs.Ends as ends
 use Rattle.dp_lines.specs.Held.{IsInLimit}
 use Rattle.dp_lines.specs.Lines.{ended, open_rest, is_overlong, numbered}
 use Rattle.dp_lines.specs.TakenParts.{TookWithin}
-use Rattle.dp_script.specs.declared.machine.ScriptEnd.{ScriptEnd}
-use Rattle.dp_script.specs.declared.machine.ScriptEnd.TheVariants.{Done, BadLine, ReadFault, Long}
-use Rattle.dp_script.specs.declared.machine.ScriptEnd.TheVariants.{Memory, Ended}
+use Rattle.dp_line_machine.specs.declared.machine.ScriptEnd.{ScriptEnd}
+use Rattle.dp_line_machine.specs.declared.machine.ScriptEnd.TheVariants.{Done, BadLine, ReadFault, Long}
+use Rattle.dp_line_machine.specs.declared.machine.ScriptEnd.TheVariants.{Memory, Ended}
 
 -- These bytes hold no cause to end: they are no more than count, the lines that are whole in them
 -- are steps, and what stands after the last newline isn't too long.

@@ -1,6 +1,2 @@
-pub mod Moments
-pub mod Counters
-pub mod Ends
 pub mod Progress
 pub mod Leaves
-pub mod Limits

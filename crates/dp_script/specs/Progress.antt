@@ -5,9 +5,9 @@ use Rattle.dp_io.specs.Pieces.{TookPieces}
 use Rattle.dp_lines.specs.declared.line.Line.{Line}
 use Rattle.dp_lines.specs.Ends.{AreSteps, IsDoable, StopsAt}
 use Rattle.dp_lines.specs.Held.{Held, IsInLimit, IsLeft, lines_from}
-use Rattle.dp_script.specs.declared.machine.ScriptEnd.{ScriptEnd}
-use Rattle.dp_script.specs.declared.machine.ScriptEnd.TheVariants.{Done, BadLine, ReadFault, Long}
-use Rattle.dp_script.specs.declared.machine.ScriptEnd.TheVariants.{Memory, Ended}
+use Rattle.dp_line_machine.specs.declared.machine.ScriptEnd.{ScriptEnd}
+use Rattle.dp_line_machine.specs.declared.machine.ScriptEnd.TheVariants.{Done, BadLine, ReadFault, Long}
+use Rattle.dp_line_machine.specs.declared.machine.ScriptEnd.TheVariants.{Memory, Ended}
 
 -- these lines are steps, and they were done between these moments
 pub record HasDone {X : Type 0} (IsStep : List Line → Line → Type 0)

@@ -5,11 +5,11 @@ ghost use Rattle.std.specs.Prelude.{IfErr, OnOk};
 ghost use Rattle.dp_lines.specs.declared.line.Line.{Line as Given};
 ghost use Rattle.dp_lines.specs.Ends.{seen};
 ghost use Rattle.dp_lines.specs.Held.{IsInLimit, NextIsLong, ended_from};
-ghost use Rattle.dp_script.specs.Ends.{IsOfLines};
-ghost use Rattle.dp_script.specs.Moments.{Moment, moment};
+ghost use Rattle.dp_line_machine.specs.Ends.{IsOfLines};
+ghost use Rattle.dp_line_machine.specs.Moments.{Moment, moment};
 ghost use Rattle.dp_script.specs.Progress.{HasDone, IsReading, StopsAfter, StopsIn};
 
-use crate::{LineMachine, ScriptEnd, Undone};
+use dp_line_machine::{LineMachine, ScriptEnd, Undone};
 use dp_lines::{Line, LineError, Lines, further_step, lines_seen, still_left};
 
 /// Does the line.

@@ -2,9 +2,7 @@
 #![tactic(auto)]
 
 mod held;
-mod machine;
 mod rest;
 mod run;
 
-pub use machine::{LineMachine, ScriptEnd, Undone};
 pub use run::run_lines;

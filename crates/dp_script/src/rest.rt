@@ -2,12 +2,12 @@
 
 ghost use Rattle.std.specs.Prelude.{List, IfErr, OnOk};
 ghost use Rattle.dp_lines.specs.declared.line.Line.{Line as Given};
-ghost use Rattle.dp_script.specs.Ends.{IsOfLines};
-ghost use Rattle.dp_script.specs.Moments.{Moment, moment};
+ghost use Rattle.dp_line_machine.specs.Ends.{IsOfLines};
+ghost use Rattle.dp_line_machine.specs.Moments.{Moment, moment};
 ghost use Rattle.dp_script.specs.Progress.{HasDone, IsEnding, StopsIn};
 
 use crate::held::do_given;
-use crate::{LineMachine, ScriptEnd};
+use dp_line_machine::{LineMachine, ScriptEnd};
 use dp_lines::{LineError, Lines};
 
 /// Does each line that is left if nothing more is fed.

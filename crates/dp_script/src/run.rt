@@ -2,14 +2,14 @@
 
 ghost use Rattle.std.specs.Prelude.{◌-◌, ◌^◌, ◌<◌, ◌≤◌, [], IfSome};
 ghost use Rattle.dp_lines.specs.TakenParts.{TookWithin};
-ghost use Rattle.dp_script.specs.Ends.{FaultMatchesInput};
+ghost use Rattle.dp_line_machine.specs.Ends.{FaultMatchesInput};
 ghost use Rattle.dp_script.specs.Leaves.{HoldsNoCause, ScriptLeaves};
-ghost use Rattle.dp_script.specs.Moments.{moment};
+ghost use Rattle.dp_line_machine.specs.Moments.{moment};
 
 use crate::held::do_piece;
 use crate::rest::do_rest;
-use crate::{LineMachine, ScriptEnd};
 use dp_io::{Failed, Source};
+use dp_line_machine::{LineMachine, ScriptEnd};
 use dp_lines::{Lines, further_step, lines_seen, still_left};
 use std::alloc::Global;
 

@@ -16,15 +16,16 @@ use Rattle.dp_lines.specs.Held.{IsLeft}
 use Rattle.dp_lines.specs.Lines.{Lacks, ended, newline, numbered, open_rest}
 use Rattle.dp_lines.proofs.Seen.{given_seen}
 use Rattle.dp_schedule.specs.declared.action.Action.{Action}
-use Rattle.dp_script.specs.Counters.{Counters}
-use Rattle.dp_script.specs.Limits.{lines_limit}
+use Rattle.dp_line_machine.specs.Counters.{Counters}
+use Rattle.dp_line_machine.specs.Limits.{lines_limit}
 use Rattle.dp_sim.specs.Report.{report}
-use Rattle.dp_world.specs.RunEnds.{DrawsByDue, DrawsFor, GrowsByDue, HasBegunOf, ReportsOf}
+use Rattle.dp_world_lines.specs.Draws.{DrawsFor}
+use Rattle.dp_world.specs.RunEnds.{DrawsByDue, GrowsByDue, HasBegunOf, ReportsOf}
 use Rattle.dp_world.specs.RunEnds.{WorldLeaves, lines_end_of}
-use Rattle.dp_world.specs.Schedule.{AskFor, IsStep, WorldComesTo}
-use Rattle.dp_world.proofs.Called.{FurtherStep, OneAction}
+use Rattle.dp_world_lines.specs.Schedule.{AskFor, IsStep, WorldComesTo}
+use Rattle.dp_world_lines.proofs.Called.{FurtherStep, OneAction}
 use Rattle.dp_world.proofs.Prefixes.{begun_draws, begun_due}
-use Rattle.dp_world.proofs.Reports.{asked_more}
+use Rattle.dp_world_lines.proofs.Reports.{asked_more}
 
 -- ---- each input comes to an end
 

@@ -12,22 +12,23 @@ use Rattle.dp_lines.specs.declared.run_end.RunEnd.TheVariants as run
 use Rattle.dp_lines.specs.Ends.{AreSteps, LinesEnd, LinesComeTo, seen}
 use Rattle.dp_lines.specs.Ends as ends
 use Rattle.dp_lines.specs.TakenParts.{TookWithin}
-use Rattle.dp_script.specs.Counters.{Counters, NothingIsDrawn, counters, counters_of}
-use Rattle.dp_script.specs.declared.machine.ScriptEnd.{ScriptEnd}
-use Rattle.dp_script.specs.declared.machine.ScriptEnd.TheVariants.{Done, BadLine, ReadFault, Long}
-use Rattle.dp_script.specs.declared.machine.ScriptEnd.TheVariants.{Memory, Ended}
-use Rattle.dp_script.specs.Ends.{FaultMatchesInput}
+use Rattle.dp_line_machine.specs.Counters.{Counters, NothingIsDrawn, counters, counters_of}
+use Rattle.dp_line_machine.specs.declared.machine.ScriptEnd.{ScriptEnd}
+use Rattle.dp_line_machine.specs.declared.machine.ScriptEnd.TheVariants.{Done, BadLine, ReadFault, Long}
+use Rattle.dp_line_machine.specs.declared.machine.ScriptEnd.TheVariants.{Memory, Ended}
+use Rattle.dp_line_machine.specs.Ends.{FaultMatchesInput}
 use Rattle.dp_script.specs.Leaves.{HoldsLines, AreFirstOf, IsNextOf, ScriptLeaves}
-use Rattle.dp_script.specs.Moments.{Moment}
+use Rattle.dp_line_machine.specs.Moments.{Moment}
 use Rattle.dp_sim.specs.World.{World, first_world}
-use Rattle.dp_world.specs.Schedule.{AskFor, IsStep}
-use Rattle.dp_script.specs.Limits.{lines_limit}
-use Rattle.dp_world.specs.Progress.{HasDone, HasEnded, Wrote}
+use Rattle.dp_world_lines.specs.Schedule.{AskFor, IsStep}
+use Rattle.dp_line_machine.specs.Limits.{lines_limit}
+use Rattle.dp_world_lines.specs.Progress.{HasDone, HasEnded, Wrote}
 use Rattle.dp_lines.specs.RunEnds.{FaultMatchesEnd}
-use Rattle.dp_world.specs.RunEnds.{DrawsFor, ReportsOf, ReportsPart}
+use Rattle.dp_world_lines.specs.Draws.{DrawsFor}
+use Rattle.dp_world.specs.RunEnds.{ReportsOf, ReportsPart}
 use Rattle.dp_world.specs.RunEnds.{ReportsWhole, TookNoCause, WorldLeaves, run_end_of}
-use Rattle.dp_world.proofs.Called.{FurtherStep}
-use Rattle.dp_world.proofs.Progress.{wrote_done}
+use Rattle.dp_world_lines.proofs.Called.{FurtherStep}
+use Rattle.dp_world_lines.proofs.Progress.{wrote_done}
 
 -- if nothing is drawn, no more is than no action may draw
 nothing_draws : (c : Counters) → NothingIsDrawn c → DrawsFor [] c

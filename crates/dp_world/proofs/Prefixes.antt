@@ -12,13 +12,14 @@ use Rattle.dp_screen.proofs.Leads.{counts_first}
 use Rattle.dp_sim.specs.Due.{action_due, schedule_due}
 use Rattle.dp_sim.specs.Report.{printed, along, report}
 use Rattle.dp_sim.specs.World.{first_world, world_after}
-use Rattle.dp_world.specs.Schedule.{AskFor, IsStep, WorldComesTo}
-use Rattle.dp_script.specs.Counters.{Counters}
-use Rattle.dp_script.specs.Limits.{lines_limit}
-use Rattle.dp_world.specs.RunEnds.{DrawsFor, HasBegunOf}
+use Rattle.dp_world_lines.specs.Schedule.{AskFor, IsStep, WorldComesTo}
+use Rattle.dp_line_machine.specs.Counters.{Counters}
+use Rattle.dp_line_machine.specs.Limits.{lines_limit}
+use Rattle.dp_world_lines.specs.Draws.{DrawsFor}
+use Rattle.dp_world.specs.RunEnds.{HasBegunOf}
 use Rattle.dp_io.proofs.Prefixes.{grows_within}
-use Rattle.dp_world.proofs.Called.{OneAction}
-use Rattle.dp_world.proofs.Reports.{Begins, along-append, asked_prefix}
+use Rattle.dp_world_lines.proofs.Called.{OneAction}
+use Rattle.dp_world_lines.proofs.Reports.{Begins, along-append, asked_prefix}
 
 -- the first list goes on after the second
 record Beyond (xs us vs : List Line) : Type 0 where

@@ -1,3 +1,1 @@
-pub mod Schedule
 pub mod RunEnds
-pub mod Progress

@@ -1,7 +1,6 @@
 -- What a run of a schedule leaves.
 use Rattle.std.specs.Prelude.{◌≡◌, ℕ, List, ◌++◌, Option, Some, IfSome}
 use Rattle.std.specs.Io.KnownBytes.{Appends, IsAtEnd}
-use Rattle.dp_board.specs.Counts.{CountsFew}
 use Rattle.dp_io.specs.Streams.{GrowsByPrefix}
 use Rattle.dp_shown.specs.declared.end.PictureEnd.{PictureEnd}
 use Rattle.dp_shown.specs.declared.end.PictureEnd.TheVariants as picture
@@ -14,16 +13,15 @@ use Rattle.dp_lines.specs.Ends.{LinesEnd, AreSteps, seen}
 use Rattle.dp_lines.specs.Ends as ends
 use Rattle.dp_lines.specs.Lines.{ended, numbered}
 use Rattle.dp_lines.specs.TakenParts.{TookWithin}
-use Rattle.dp_pixels.specs.Feet.{reach}
 use Rattle.dp_schedule.specs.declared.action.Action.{Action}
-use Rattle.dp_script.specs.Counters.{Counters}
-use Rattle.dp_script.specs.declared.machine.ScriptEnd.{ScriptEnd}
-use Rattle.dp_script.specs.declared.machine.ScriptEnd.TheVariants as script
+use Rattle.dp_line_machine.specs.Counters.{Counters}
+use Rattle.dp_line_machine.specs.declared.machine.ScriptEnd.{ScriptEnd}
+use Rattle.dp_line_machine.specs.declared.machine.ScriptEnd.TheVariants as script
 use Rattle.dp_script.specs.Leaves.{HoldsNoCause}
-use Rattle.dp_sim.specs.Due.{schedule_due}
 use Rattle.dp_sim.specs.Report.{report}
-use Rattle.dp_world.specs.Schedule.{AskFor, IsStep, WorldComesTo}
-use Rattle.dp_script.specs.Limits.{lines_limit}
+use Rattle.dp_world_lines.specs.Draws.{DrawsFor}
+use Rattle.dp_world_lines.specs.Schedule.{AskFor, IsStep, WorldComesTo}
+use Rattle.dp_line_machine.specs.Limits.{lines_limit}
 
 -- how a run ends if that of its lines ends with this
 abbrev pub run_end_of : ScriptEnd PictureEnd → RunEnd
@@ -40,11 +38,6 @@ abbrev pub lines_end_of : LinesEnd → RunEnd
 lines_end_of ends.AllDone = Done
 lines_end_of (ends.BadLine n) = BadLine n
 lines_end_of ends.TooLong = Long
-
--- at most the commands were drawn that these actions may draw, and no more tiles were made than
--- those reach
-abbrev pub DrawsFor : List Action → Counters → Type 0
-DrawsFor actions c = CountsFew reach (schedule_due actions) c.draws c.draws_now c.tiles c.tiles_now
 
 -- If the input's bytes are known, they come to this end. The output grew by their report, and no
 -- more was drawn than that schedule may draw.

@@ -7,10 +7,10 @@ ghost use Rattle.dp_lines.specs.declared.line.Line.{Line};
 ghost use Rattle.dp_lines.specs.declared.run_end.RunEnd.{RunEnd};
 ghost use Rattle.dp_lines.specs.Ends.{LinesEnd};
 ghost use Rattle.dp_schedule.specs.declared.action.Action.{Action};
-ghost use Rattle.dp_script.specs.Counters.{Counters};
+ghost use Rattle.dp_line_machine.specs.Counters.{Counters};
 ghost use Rattle.dp_sim.specs.Invariant.{SaysNoControl};
 ghost use Rattle.dp_world.specs.RunEnds.{DrawsByDue, GrowsByDue, WorldLeaves};
-ghost use Rattle.dp_world.specs.Schedule.{AskFor, WorldComesTo};
+ghost use Rattle.dp_world_lines.specs.Schedule.{AskFor, WorldComesTo};
 
 use dp_lines::{StepRule, further_step, one_end, whole_lines};
 use dp_schedule::one_action;
@@ -19,7 +19,7 @@ use dp_schedule::one_action;
 struct ScheduleLines;
 
 impl StepRule for ScheduleLines {
-    ghost use Rattle.dp_world.specs.Schedule.{IsStep};
+    ghost use Rattle.dp_world_lines.specs.Schedule.{IsStep};
 
     ghost is_step = { IsStep };
 }

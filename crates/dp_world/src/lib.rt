@@ -4,7 +4,6 @@
 #![tactic(auto)]
 
 mod laws;
-mod line_run;
 mod run;
 
 pub use laws::{every_schedule, lines_say_no_control, one_schedule, reports_are_due};

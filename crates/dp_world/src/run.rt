@@ -2,15 +2,16 @@
 
 ghost use Rattle.std.specs.Prelude.{◌≡◌, ◌≤◌};
 ghost use Rattle.dp_lines.specs.RunEnds.{FaultMatchesEnd};
-ghost use Rattle.dp_script.specs.Counters.{counters};
+ghost use Rattle.dp_line_machine.specs.Counters.{counters};
 ghost use Rattle.dp_world.specs.RunEnds.{WorldLeaves, run_end_of};
 
-use crate::line_run::WorldRun;
 use dp_io::{Sink, Source};
+use dp_line_machine::ScriptEnd;
 use dp_lines::{RunEnd, further_step};
-use dp_script::{ScriptEnd, run_lines};
+use dp_script::run_lines;
 use dp_shown::{ClientBoard, PictureEnd};
 use dp_steps::Steps;
+use dp_world_lines::WorldRun;
 use std::alloc::Global;
 use std::sync::ledger::Ledger;
 

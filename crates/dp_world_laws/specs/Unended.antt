@@ -9,7 +9,7 @@ use Rattle.dp_sim.specs.Exchanges.{Participant}
 use Rattle.dp_sim.specs.World.{first_world, participant_of, world_after}
 use Rattle.dp_sim_laws.specs.OwnSteps.{own_steps}
 use Rattle.dp_sim_laws.specs.Tally.{Tally, replies, tally_of}
-use Rattle.dp_world.specs.Schedule.{AskFor}
+use Rattle.dp_world_lines.specs.Schedule.{AskFor}
 
 -- the lines ask for these actions, and no event of them was answered Ended
 pub record AskUnended (lines : List Line) (actions : List Action) : Type 0 where

@@ -1,7 +1,7 @@
 use Rattle.std.proofs.Common.{[]}
 use Rattle.std.proofs.lemmas.List.Elements.{All-nil}
 use Rattle.dp_lines.specs.Lines.{Lacks, newline}
-use Rattle.dp_script.specs.Limits.{lines_limit}
+use Rattle.dp_line_machine.specs.Limits.{lines_limit}
 use Rattle.dp_io.specs.Limits.{stream_limit}
 use Rattle.dp_joining.proofs.Begun.{begun_due}
 use Rattle.dp_joining.proofs.laws.begun_is_due.Goals as goal

@@ -1,4 +1,4 @@
-use Rattle.dp_script.specs.Limits.{lines_limit}
+use Rattle.dp_line_machine.specs.Limits.{lines_limit}
 use Rattle.dp_io.specs.Limits.{stream_limit}
 use Rattle.dp_joining.proofs.OneOutcome.{one_outcome}
 use Rattle.dp_joining.proofs.laws.one_outcome.Goals as goal

@@ -1,4 +1,4 @@
-use Rattle.dp_script.specs.Moments.{moment}
+use Rattle.dp_line_machine.specs.Moments.{moment}
 use Rattle.dp_joining.specs.Scripts.{seen_by}
 use Rattle.dp_joining.proofs.Doing.{nothing_done}
 use Rattle.dp_joining.proofs.Leaving.{fault_matches_of, later_of, leaves_of}

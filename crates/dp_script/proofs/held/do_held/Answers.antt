@@ -1,7 +1,7 @@
 use Rattle.std.proofs.Common.{Err, ap, sym, ◌∙◌}
 use Rattle.std.proofs.lemmas.Result.{err_from_is_err_and}
 use Rattle.dp_lines.proofs.Giving.{long_kept}
-use Rattle.dp_script.specs.Moments.{moment}
+use Rattle.dp_line_machine.specs.Moments.{moment}
 use Rattle.dp_script.proofs.Reading.{reading_further, reading_stops, reading_long, reading_full}
 use Rattle.dp_script.proofs.held.do_held.Goals as goal
 

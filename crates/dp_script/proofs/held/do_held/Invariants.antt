@@ -1,6 +1,6 @@
 use Rattle.std.proofs.Common.{◌≡◌, ℕ, List, length}
 use Rattle.dp_lines.specs.Held.{ended_from}
-use Rattle.dp_script.specs.Moments.{Moment, moment}
+use Rattle.dp_line_machine.specs.Moments.{Moment, moment}
 use Rattle.dp_script.specs.Progress.{IsReading}
 use Rattle.dp_script.proofs.held.do_held.Given as goal
 

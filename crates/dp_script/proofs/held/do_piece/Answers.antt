@@ -2,8 +2,8 @@ use Rattle.std.proofs.Common.{ℕ, ◌≤◌, ◌++◌, List, length, sym, subst
 use Rattle.std.proofs.Common.{length-append}
 use Rattle.std.proofs.lemmas.Result.{on_ok_weaker, MatchResult-weaker}
 use Rattle.dp_lines.specs.Ends.{seen}
-use Rattle.dp_script.specs.declared.machine.ScriptEnd.TheVariants.{Memory}
-use Rattle.dp_script.specs.Moments.{moment}
+use Rattle.dp_line_machine.specs.declared.machine.ScriptEnd.TheVariants.{Memory}
+use Rattle.dp_line_machine.specs.Moments.{moment}
 use Rattle.dp_script.specs.Progress.{StopsIn}
 use Rattle.dp_script.proofs.Reading.{reading_fed, reading_full}
 use Rattle.dp_script.proofs.held.do_piece.Goals as goal

@@ -1,6 +1,6 @@
 use Rattle.std.proofs.Common.{Err, ap}
 use Rattle.std.proofs.lemmas.Result.{err_from_is_err_and}
-use Rattle.dp_script.specs.Moments.{moment}
+use Rattle.dp_line_machine.specs.Moments.{moment}
 use Rattle.dp_script.proofs.Reading.{ending_further, ending_stops, ending_long, ending_full}
 use Rattle.dp_script.proofs.Reading.{ending_done}
 use Rattle.dp_script.proofs.rest.do_rest.Goals as goal

@@ -1,7 +1,7 @@
 use Rattle.std.proofs.Common.{List, length}
 use Rattle.dp_lines.specs.declared.line.Line.{Line}
 use Rattle.dp_lines.specs.Held.{lines_from}
-use Rattle.dp_script.specs.Moments.{Moment, moment}
+use Rattle.dp_line_machine.specs.Moments.{Moment, moment}
 use Rattle.dp_script.specs.Progress.{IsEnding}
 use Rattle.dp_script.proofs.rest.do_rest.Given as goal
 

@@ -2,7 +2,7 @@ use Rattle.std.proofs.Common.{◌≡◌, ◌<◌, ◌∙◌, ℕ, [], length, ta
 use Rattle.std.proofs.lemmas.List.{length-take, length-drop}
 use Rattle.dp_io.proofs.Pieces.{nothing_taken}
 use Rattle.dp_lines.specs.Held.{Held}
-use Rattle.dp_script.specs.Moments.{moment}
+use Rattle.dp_line_machine.specs.Moments.{moment}
 use Rattle.dp_script.proofs.Leaving.{read_first, none_ended, none_long, read_further, took_piece}
 use Rattle.dp_script.proofs.Leaving.{piece_stops, long_leaves, fault_leaves, done_leaves}
 use Rattle.dp_script.proofs.Leaving.{rest_stops, took_chunk, took_fault, stop_fault}

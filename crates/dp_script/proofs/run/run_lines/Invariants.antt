@@ -1,6 +1,6 @@
 use Rattle.std.proofs.Common.{◌≡◌, ◌+◌, [], ℕ}
 use Rattle.dp_lines.specs.Held.{NextIsLong, ended_from}
-use Rattle.dp_script.specs.Moments.{moment}
+use Rattle.dp_line_machine.specs.Moments.{moment}
 use Rattle.dp_script.specs.Progress.{HasRead}
 use Rattle.dp_script.proofs.run.run_lines.Given as goal
 

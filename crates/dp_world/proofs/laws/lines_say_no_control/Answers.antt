@@ -1,4 +1,4 @@
-use Rattle.dp_world.proofs.Reports.{all_allowed}
+use Rattle.dp_world_lines.proofs.Reports.{all_allowed}
 use Rattle.dp_world.proofs.laws.lines_say_no_control.Goals as goal
 
 pub returns : goal.returns

@@ -1,8 +1,8 @@
 use Rattle.std.proofs.Common.{◌≡◌, List, subst}
 use Rattle.dp_lines.specs.declared.line.Line.{Line}
-use Rattle.dp_world.specs.Schedule.{AskFor}
-use Rattle.dp_script.specs.Limits.{lines_limit}
-use Rattle.dp_world.proofs.Reports.{asked_same}
+use Rattle.dp_world_lines.specs.Schedule.{AskFor}
+use Rattle.dp_line_machine.specs.Limits.{lines_limit}
+use Rattle.dp_world_lines.proofs.Reports.{asked_same}
 use Rattle.dp_world.proofs.laws.one_schedule.Goals as goal
 
 pub returns-clause-actions : goal.returns-clause-actions

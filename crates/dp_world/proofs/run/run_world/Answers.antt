@@ -1,5 +1,5 @@
-use Rattle.dp_script.specs.Moments.{moment}
-use Rattle.dp_world.specs.Progress.{world_of}
+use Rattle.dp_line_machine.specs.Moments.{moment}
+use Rattle.dp_world_lines.specs.Progress.{world_of}
 use Rattle.dp_world.proofs.Leaving.{nothing_done, refused_leaves, leaves_of, fault_matches_of}
 use Rattle.dp_world.proofs.Leaving.{later_of}
 use Rattle.dp_world.proofs.run.run_world.Goals as goal

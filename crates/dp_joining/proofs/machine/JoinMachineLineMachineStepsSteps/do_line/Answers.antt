@@ -1,4 +1,4 @@
-use Rattle.dp_script.specs.Moments.{moment}
+use Rattle.dp_line_machine.specs.Moments.{moment}
 use Rattle.dp_joining.specs.Scripts.{seen_by}
 use Rattle.dp_joining.proofs.Doing.{done_further, halts_at, ran_out_at}
 use Rattle.dp_joining.proofs.machine.JoinMachineLineMachineStepsSteps.do_line.Goals as goal

@@ -1,11 +1,11 @@
 -- Why a line isn't done, and which counts of faults rise.
 use Rattle.std.specs.Prelude.{◌≡◌, ℕ, ⊤}
 use Rattle.dp_io.specs.Faults.{Rose}
-use Rattle.dp_script.specs.declared.machine.Undone.{Undone}
-use Rattle.dp_script.specs.declared.machine.Undone.TheVariants as undone
-use Rattle.dp_script.specs.declared.machine.ScriptEnd.{ScriptEnd}
-use Rattle.dp_script.specs.declared.machine.ScriptEnd.TheVariants.{Done, BadLine, ReadFault, Long}
-use Rattle.dp_script.specs.declared.machine.ScriptEnd.TheVariants.{Memory, Ended}
+use Rattle.dp_line_machine.specs.declared.machine.Undone.{Undone}
+use Rattle.dp_line_machine.specs.declared.machine.Undone.TheVariants as undone
+use Rattle.dp_line_machine.specs.declared.machine.ScriptEnd.{ScriptEnd}
+use Rattle.dp_line_machine.specs.declared.machine.ScriptEnd.TheVariants.{Done, BadLine, ReadFault, Long}
+use Rattle.dp_line_machine.specs.declared.machine.ScriptEnd.TheVariants.{Memory, Ended}
 
 -- P holds if the line is no step
 abbrev pub IfNoStep : {E : Type 0} → Type 0 → Undone E → Type 0

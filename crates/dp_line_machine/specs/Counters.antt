@@ -1,6 +1,6 @@
 -- The counters of a run: how many commands were drawn, and how many tiles were made.
 use Rattle.std.specs.Prelude.{◌≡◌, ℕ}
-use Rattle.dp_script.specs.Moments.{Moment}
+use Rattle.dp_line_machine.specs.Moments.{Moment}
 
 -- the counters before a run, and after it
 pub record Counters : Type 0 where

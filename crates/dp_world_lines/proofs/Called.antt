@@ -4,7 +4,7 @@ use Rattle.dp_lines.specs.declared.line.Line.{Line}
 use Rattle.dp_lines.specs.Ends.{AreSteps, IsDoable}
 use Rattle.dp_schedule.specs.declared.action.Action.{Action}
 use Rattle.dp_schedule.specs.LineGrammar.{Parses}
-use Rattle.dp_world.specs.Schedule.{IsStep}
+use Rattle.dp_world_lines.specs.Schedule.{IsStep}
 
 -- a line asks for one action
 abbrev pub OneAction : Type 0

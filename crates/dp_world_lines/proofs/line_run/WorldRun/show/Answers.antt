@@ -2,8 +2,8 @@ use Rattle.std.proofs.Common.{ℕ, List, subst, OnOk}
 use Rattle.std.specs.Io.KnownBytes.{Appends}
 use Rattle.dp_io.specs.Streams.{GrowsByPrefix}
 use Rattle.dp_sim.specs.World.{participant_of}
-use Rattle.dp_world.proofs.Shown.{text_shown}
-use Rattle.dp_world.proofs.line_run.WorldRun.show.Goals as goal
+use Rattle.dp_world_lines.proofs.Shown.{text_shown}
+use Rattle.dp_world_lines.proofs.line_run.WorldRun.show.Goals as goal
 
 pub returns-clause-written : goal.returns-clause-written
 returns-clause-written g c =

@@ -6,7 +6,7 @@ use Rattle.dp_schedule.specs.declared.action.Action.{Action}
 use Rattle.dp_schedule.specs.declared.action.Action.TheVariants.{Join, Act, Show}
 use Rattle.dp_schedule.specs.LineGrammar.{Parses}
 use Rattle.dp_sim.specs.World.{World, world_after, participant_of}
-use Rattle.dp_script.specs.Limits.{lines_limit}
+use Rattle.dp_line_machine.specs.Limits.{lines_limit}
 
 -- the lines ask for these actions, one each
 abbrev pub AskFor : List Line → List Action → Type 0

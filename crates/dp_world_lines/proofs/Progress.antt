@@ -15,21 +15,21 @@ use Rattle.dp_schedule.specs.declared.action.Action.{Action}
 use Rattle.dp_msg_draw.specs.declared.draw.Draw.{Draw}
 use Rattle.dp_pixels.specs.Feet.{reach}
 use Rattle.dp_schedule.specs.LineGrammar.{Parses}
-use Rattle.dp_script.specs.declared.machine.Undone.{Undone}
-use Rattle.dp_script.specs.declared.machine.Undone.TheVariants.{NoStep, Ended}
+use Rattle.dp_line_machine.specs.declared.machine.Undone.{Undone}
+use Rattle.dp_line_machine.specs.declared.machine.Undone.TheVariants.{NoStep, Ended}
 use Rattle.dp_screen.proofs.Leads.{counts_both}
-use Rattle.dp_script.specs.Counters.{counters_of}
-use Rattle.dp_script.specs.Ends.{IfEnded, IfNoStep}
-use Rattle.dp_script.specs.Moments.{Moment}
+use Rattle.dp_line_machine.specs.Counters.{counters_of}
+use Rattle.dp_line_machine.specs.Ends.{IfEnded, IfNoStep}
+use Rattle.dp_line_machine.specs.Moments.{Moment}
 use Rattle.dp_sim.specs.Due.{action_due, schedule_due}
 use Rattle.dp_sim.specs.Report.{printed, report}
 use Rattle.dp_sim.specs.World.{World, after, world_after}
-use Rattle.dp_world.specs.Schedule.{IsPossible, IsStep}
-use Rattle.dp_world.specs.Progress.{HasDone, HasEnded, IsWorldLineRefused, Wrote}
-use Rattle.dp_world.specs.RunEnds.{DrawsFor}
+use Rattle.dp_world_lines.specs.Schedule.{IsPossible, IsStep}
+use Rattle.dp_world_lines.specs.Progress.{HasDone, HasEnded, IsWorldLineRefused, Wrote}
+use Rattle.dp_world_lines.specs.Draws.{DrawsFor}
 use Rattle.dp_io.proofs.Prefixes.{grows_after, grows_whole}
-use Rattle.dp_world.proofs.Called.{OneAction}
-use Rattle.dp_world.proofs.Reports.{asked_more, asked_same, due_more, report_more, world_more}
+use Rattle.dp_world_lines.proofs.Called.{OneAction}
+use Rattle.dp_world_lines.proofs.Reports.{asked_more, asked_same, due_more, report_more, world_more}
 
 -- a line that asks for what may be done is a step
 pub is_step : {M O : Type 0} (world : M → World) (held : O → Option (List ℕ)) (faults : O → ℕ)

@@ -34,8 +34,8 @@ pub trait LineMachine<O, D, T>: StepRule {
     ghost use Rattle.std.specs.Prelude.{◌∷◌, ◌++◌, [], List, OnOk, IfErr};
     ghost use Rattle.dp_lines.specs.declared.line.Line.{Line as Given};
     ghost use Rattle.dp_lines.specs.Held.{IsInLimit};
-    ghost use Rattle.dp_script.specs.Moments.{Moment, moment};
-    ghost use Rattle.dp_script.specs.Ends.{IfNoStep, IfEnded};
+    ghost use Rattle.dp_line_machine.specs.Moments.{Moment, moment};
+    ghost use Rattle.dp_line_machine.specs.Ends.{IfNoStep, IfEnded};
 
     /// How a line ends a run.
     type End;

@@ -16,8 +16,8 @@ use Rattle.dp_sim.specs.Due.{action_due, schedule_due}
 use Rattle.dp_sim.specs.Invariant.{SaysNoControl}
 use Rattle.dp_sim.specs.Report.{printed, along, report}
 use Rattle.dp_sim.specs.World.{World, first_world, after, world_after}
-use Rattle.dp_world.specs.Schedule.{AskFor}
-use Rattle.dp_world.proofs.Called.{OneAction}
+use Rattle.dp_world_lines.specs.Schedule.{AskFor}
+use Rattle.dp_world_lines.proofs.Called.{OneAction}
 
 -- ---- asking
 

@@ -8,15 +8,15 @@ use Rattle.dp_shown.specs.declared.end.PictureEnd.TheVariants.{Failed, Memory}
 use Rattle.dp_lines.specs.declared.line.Line.{Line}
 use Rattle.dp_schedule.specs.declared.action.Action.{Action}
 use Rattle.dp_schedule.specs.LineGrammar.{Parses}
-use Rattle.dp_script.specs.declared.machine.Undone.{Undone}
-use Rattle.dp_script.specs.declared.machine.Undone.TheVariants.{NoStep, Ended}
-use Rattle.dp_script.specs.Counters.{Counters, counters_of}
-use Rattle.dp_script.specs.Moments.{Moment}
+use Rattle.dp_line_machine.specs.declared.machine.Undone.{Undone}
+use Rattle.dp_line_machine.specs.declared.machine.Undone.TheVariants.{NoStep, Ended}
+use Rattle.dp_line_machine.specs.Counters.{Counters, counters_of}
+use Rattle.dp_line_machine.specs.Moments.{Moment}
 use Rattle.dp_sim.specs.Report.{report}
 use Rattle.dp_sim.specs.World.{World, world_after}
-use Rattle.dp_world.specs.declared.line_run.WorldRun.{WorldRun}
-use Rattle.dp_world.specs.RunEnds.{DrawsFor}
-use Rattle.dp_world.specs.Schedule.{AskFor, IsPossible, IsStep}
+use Rattle.dp_world_lines.specs.declared.line_run.WorldRun.{WorldRun}
+use Rattle.dp_world_lines.specs.Draws.{DrawsFor}
+use Rattle.dp_world_lines.specs.Schedule.{AskFor, IsPossible, IsStep}
 
 -- the world of a machine
 abbrev pub world_of : {B : Type 0} → WorldRun B → World

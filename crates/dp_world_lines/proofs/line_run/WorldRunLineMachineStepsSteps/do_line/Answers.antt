@@ -1,10 +1,10 @@
 use Rattle.std.proofs.Common.{rules}
 use Rattle.std.proofs.lemmas.Result.{err_from_is_err_and}
-use Rattle.dp_script.specs.Moments.{moment}
-use Rattle.dp_world.specs.Progress.{world_of}
-use Rattle.dp_world.proofs.Progress.{is_step, done_further, refused_by, kept_by, ran_out_by}
-use Rattle.dp_world.proofs.Progress.{ended_by}
-use Rattle.dp_world.proofs.line_run.WorldRunLineMachineStepsSteps.do_line.Goals as goal
+use Rattle.dp_line_machine.specs.Moments.{moment}
+use Rattle.dp_world_lines.specs.Progress.{world_of}
+use Rattle.dp_world_lines.proofs.Progress.{is_step, done_further, refused_by, kept_by, ran_out_by}
+use Rattle.dp_world_lines.proofs.Progress.{ended_by}
+use Rattle.dp_world_lines.proofs.line_run.WorldRunLineMachineStepsSteps.do_line.Goals as goal
 
 pub returns-in_err-action-clause-refused : goal.returns-in_err-action-clause-refused
 returns-in_err-action-clause-refused g c =

@@ -15,14 +15,14 @@ ghost use Rattle.dp_sim.specs.Due.{action_due};
 ghost use Rattle.dp_sim.specs.Invariant.{IsWorld, SaysNoControl};
 ghost use Rattle.dp_sim.specs.Report.{printed, shown_of};
 ghost use Rattle.dp_sim.specs.World.{after, first_world, participant_of};
-ghost use Rattle.dp_world.specs.Schedule.{IsPossible};
-ghost use Rattle.dp_world.specs.Progress.{IsWorldLineRefused};
+ghost use Rattle.dp_world_lines.specs.Schedule.{IsPossible};
+ghost use Rattle.dp_world_lines.specs.Progress.{IsWorldLineRefused};
 
 use dp_io::{Sink, put_all};
+use dp_line_machine::{LineMachine, Undone};
 use dp_lines::Line;
 use dp_printing::show;
 use dp_schedule::{Action, CanvasKind, ReportLine, one_action, read_action};
-use dp_script::{LineMachine, Undone};
 use dp_showing::Shown;
 use dp_shown::{ClientBoard, PictureEnd};
 use dp_sim::World;
@@ -32,13 +32,13 @@ use std::sync::ledger::Ledger;
 
 /// The machine of a schedule: it does a line in its world.
 #[derive(Drop)]
-pub(crate) struct WorldRun<B: ClientBoard> {
+pub struct WorldRun<B: ClientBoard> {
     pub alloc: Global,
     pub world: World<B>,
 }
 
 impl<B: ClientBoard> dp_lines::StepRule for WorldRun<B> {
-    ghost use Rattle.dp_world.specs.Schedule.{IsStep};
+    ghost use Rattle.dp_world_lines.specs.Schedule.{IsStep};
 
     ghost is_step = { IsStep };
 }
@@ -46,7 +46,7 @@ impl<B: ClientBoard> dp_lines::StepRule for WorldRun<B> {
 impl<B: ClientBoard, O: Sink, D: Ledger, T: Ledger> LineMachine<O, Steps<D>, Steps<T>>
     for WorldRun<B> {
     ghost use Rattle.dp_sim.specs.Invariant.{IsWorld};
-    ghost use Rattle.dp_world.specs.Progress.{HasDone, HasEnded, world_of};
+    ghost use Rattle.dp_world_lines.specs.Progress.{HasDone, HasEnded, world_of};
 
     type End = PictureEnd;
 

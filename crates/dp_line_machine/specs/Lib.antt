@@ -1,0 +1,4 @@
+pub mod Moments
+pub mod Counters
+pub mod Ends
+pub mod Limits

@@ -1,0 +1,4 @@
+pub mod Called
+pub mod Reports
+pub mod Shown
+pub mod Progress
