@@ -290,10 +290,10 @@ def page(logs):
     name = os.path.join(os.path.dirname(os.path.dirname(os.path.abspath(__file__))), "docs/gate.md")
     rows, text = rows_of(logs), open(name, encoding="utf-8").read()
     text = put_table(text, "| crate | proof", table_of(rows))
-    change = re.search(r"\n\| a change in .*\n.*\n((?:\|.*\n)+)", text)
-    crates = [line.split("|")[1].strip() for line in change[1].strip().split("\n")]
+    found = re.search(r"\n\| a change in .*\n.*\n((?:\|.*\n)+)", text)
+    crates = [line.split("|")[1].strip() for line in found[1].strip().split("\n")]
     lines = [f"| {it} | {{}} | {{:.0f}} | {{:.0f}} | {{:.0f}} |".format(*change(it, rows)) for it in crates]
-    text = text[: change.start(1)] + "\n".join(lines) + "\n" + text[change.end(1) :]
+    text = text[: found.start(1)] + "\n".join(lines) + "\n" + text[found.end(1) :]
     first = text.index("From nothing the gate takes")
     text = text[:first] + sentence_of(rows) + text[text.index("\n\n", first) :]
     open(name, "w", encoding="utf-8").write(text)
