@@ -32,7 +32,8 @@ pub row_moved_more : (before now row : List Channels) (left place : ℤ) (n : �
 row_moved_more before now row left place n p is pixel at =
     ap (λ ps. ps ++ p ∷ []) is
     ∙ (append_assoc before (row_moved n row left) (p ∷ [])
-    ∙ (ap (λ q. before ++ (row_moved n row left ++ q ∷ [])) (pixel ∙ ap (λ z. pixel_in_row row z) at)
+    ∙ (ap (λ q. before ++ (row_moved n row left ++ q ∷ []))
+    (pixel ∙ ap (λ z. pixel_in_row row z) at)
     ∙ ap (λ ps. before ++ ps) (sym (row_more (λ x. pixel_in_row row (pos x -ℤ left)) n))))
 
 -- one row more of a canvas that moves
