@@ -19,7 +19,7 @@ use dp_board::Board;
 use dp_layered::LayeredBoard;
 use dp_layers::LayerRow;
 use dp_msg_draw::Draw;
-use dp_paint::Workers;
+use dp_par::Workers;
 use dp_plain::BoardView;
 use dp_steps::Steps;
 use dp_tile::Grid;

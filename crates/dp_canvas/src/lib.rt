@@ -12,5 +12,4 @@ mod tiled;
 pub use canvas::Canvas;
 pub use crossing::canvases_cross_threads;
 pub use deferred::{DeferredBoard, DeferredPixels};
-pub use dp_paint::Workers;
 pub use settle::settle_half_full;

@@ -5,7 +5,7 @@ ghost use Rattle.dp_layers.specs.Layers.{row_limit};
 
 use crate::deferred::{DeferredBoard, DeferredPixels};
 use dp_board::Board;
-use dp_paint::Workers;
+use dp_par::Workers;
 use dp_plain::{BoardView, LayerPixels};
 use dp_steps::Steps;
 use dp_wire::Gate;

@@ -14,7 +14,7 @@ ghost use Rattle.dp_commands.specs.Runs.{run_of};
 
 use crate::host::{Host, Resources};
 use crate::server::run_server;
-use dp_canvas::{Canvas, Workers};
+use dp_canvas::Canvas;
 use dp_drill::{Drill, run_drill};
 use dp_endings::Ending;
 use dp_epochs::{Journal, Shut};
@@ -23,6 +23,7 @@ use dp_joining::run_join;
 use dp_keeper::Keeper;
 use dp_lines::RunEnd;
 use dp_msg_meta::Text;
+use dp_par::Workers;
 use dp_serve::Reports;
 use dp_steps::Steps;
 use dp_viewer::{Playing, run_play, run_replay};

@@ -9,9 +9,10 @@ ghost use Rattle.dp_plain.specs.Commands.{draw_all};
 ghost use Rattle.dp_replay.specs.Replay.{replay, undo_depth, user_act_of};
 
 use dp_board::{Act, UserAct, drawn_flags, each_act_has_a_flag};
-use dp_canvas::{Canvas, Workers};
+use dp_canvas::Canvas;
 use dp_messages::Entry;
 use dp_msg_draw::Draw;
+use dp_par::Workers;
 use dp_replay::{UNDO_DEPTH, act_of};
 use dp_steps::Steps;
 use dp_wire::Gate;

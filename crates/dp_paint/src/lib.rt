@@ -12,4 +12,4 @@ mod workers;
 
 pub use in_place::paint_in_place;
 pub use layer::DeferredGrid;
-pub use workers::{Workers, paint};
+pub use workers::paint;

@@ -19,7 +19,7 @@ use crate::feet::cells_of;
 use crate::jobs::{GROUP, make_jobs, write_jobs};
 use dp_msg_draw::Draw;
 use dp_ops::{Finish, Numbered, OpsPainter, Sheet, TileLists, file};
-use dp_par::par_each;
+use dp_par::{Workers, par_each};
 use dp_pixels::pixels_stay_outside_the_foot;
 use dp_steps::Steps;
 use dp_tile::{CellArea, Grid};
@@ -27,14 +27,6 @@ use dp_wire::Gate;
 use std::alloc::AllocError;
 use std::sync::ledger::Ledger;
 use std::thread::Threads;
-
-/// How many threads may work at the same time, if 0 is 1. Then the gate that their jobs pass, each
-/// by its place and 0.
-#[derive(Drop)]
-pub struct Workers<'a, G> {
-    pub count: u32,
-    pub gate: &'a G,
-}
 
 /// The grid after what waits on the tiles of eight rows from one on, painted by workers.
 ///

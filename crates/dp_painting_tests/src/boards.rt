@@ -4,9 +4,10 @@ ghost use Rattle.std.specs.Prelude.{◌≡◌, ◌<◌};
 
 use dp_blend::Pixel;
 use dp_board::Board;
-use dp_canvas::{Canvas, DeferredBoard, Workers};
+use dp_canvas::{Canvas, DeferredBoard};
 use dp_layered::PlainBoard;
 use dp_msg_draw::{Draw, is_listed, read_draw};
+use dp_par::Workers;
 use dp_plain::BoardView;
 use dp_steps::Steps;
 use dp_wire::OpenGate;

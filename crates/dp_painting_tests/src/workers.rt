@@ -4,10 +4,11 @@ ghost use Rattle.std.specs.Prelude.{◌≡◌, ◌<◌};
 
 use crate::pictures::{create, draw, resize, sink_of};
 use dp_blend::{Pixel, of_argb};
-use dp_canvas::{Canvas, Workers};
+use dp_canvas::Canvas;
 use dp_flat::{write_p6, write_p6_by};
 use dp_layered::PlainBoard;
 use dp_msg_draw::Draw;
+use dp_par::Workers;
 use dp_plain::BoardView;
 use dp_steps::Steps;
 use dp_wire::Gate;

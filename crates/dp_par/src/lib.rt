@@ -4,6 +4,10 @@
 ghost use Rattle.std.specs.Prelude.{ℕ, ◌≡◌, ◌+◌, ◌<◌, ◌^◌, length, All, slice_index_or};
 ghost use Rattle.std.specs.Thread.{IsSend, IsSync};
 
+mod workers;
+
+pub use workers::Workers;
+
 use dp_wire::Gate;
 use std::sync::atomic::{AtomicU32, Ordering};
 use std::thread::{Threads, for_each_mut, join, join_mut};

@@ -15,11 +15,12 @@ ghost use Rattle.dp_viewer.specs.Ways.{first_of, play_way};
 
 use crate::reading::{ShownBoard, begin_anew, reads_to_end, take_due};
 use crate::workers::WorkersBoard;
-use dp_canvas::{DeferredBoard, Workers, settle_half_full};
+use dp_canvas::{DeferredBoard, settle_half_full};
 use dp_io::Source;
 use dp_lines::RunEnd;
 use dp_messages::Entry;
 use dp_msg_draw::{Draw, TileContent};
+use dp_par::Workers;
 use dp_recording::RecordingReader;
 use dp_replay::act_of_entry;
 use dp_rollback::KeptAct;

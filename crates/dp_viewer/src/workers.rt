@@ -4,10 +4,10 @@ ghost use Rattle.std.specs.Prelude.{◌≡◌, ◌≤◌};
 ghost use Rattle.dp_viewer.specs.Reading.{WritesShown};
 
 use crate::reading::ShownBoard;
-use dp_canvas::Workers;
 use dp_flat::write_p6_by;
 use dp_io::Sink;
 use dp_lines::RunEnd;
+use dp_par::Workers;
 use dp_shown::PictureEnd;
 use dp_steps::Steps;
 use dp_wire::Gate;
