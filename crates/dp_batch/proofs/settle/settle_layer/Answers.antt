@@ -5,8 +5,8 @@ use Rattle.dp_layers.specs.Rows.{content_of}
 use Rattle.dp_paint.specs.Layers.{LayerOf}
 use Rattle.dp_plain.proofs.Rows.{filled_found}
 use Rattle.dp_plain.specs.Board.{Board}
-use Rattle.dp_canvas.proofs.Settled.{put_back}
-use Rattle.dp_canvas.proofs.settle.settle_layer.Goals as goal
+use Rattle.dp_batch.proofs.Settled.{put_back}
+use Rattle.dp_batch.proofs.settle.settle_layer.Goals as goal
 
 pub put_content-clear-requires-clause-present : goal.put_content-clear-requires-clause-present
 put_content-clear-requires-clause-present g c =
