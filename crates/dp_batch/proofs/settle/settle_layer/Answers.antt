@@ -2,7 +2,6 @@ use Rattle.std.proofs.Common.{◌∙◌, List, Option, ap}
 use Rattle.std.specs.Prelude.{is_some}
 use Rattle.dp_blend.specs.Color.{Channels}
 use Rattle.dp_layers.specs.Rows.{content_of}
-use Rattle.dp_paint.specs.Layers.{LayerOf}
 use Rattle.dp_plain.proofs.Rows.{filled_found}
 use Rattle.dp_plain.specs.Board.{Board}
 use Rattle.dp_batch.proofs.Settled.{put_back}
