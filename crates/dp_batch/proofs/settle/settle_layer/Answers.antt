@@ -9,15 +9,23 @@ use Rattle.dp_batch.proofs.settle.settle_layer.Goals as goal
 
 pub put_content-clear-requires-clause-present : goal.put_content-clear-requires-clause-present
 put_content-clear-requires-clause-present g c =
+    let b = c.args.board.now in
+    let pixels = g.P.LayerPixels.pixels b.width b.height in
     ap (λ (b : Board). is_some (content_of b.rows c.args.id)) c.put_content-content.ensures.new
     ∙ ap (λ (o : Option (List Channels)). is_some o)
-    (filled_found c.args.board.now.rows c.args.id c.put_content-content.result.pixels
-    c.in_ok-clear.clear.pixels c.put_content-content.ensures.old)
+    (filled_found b.rows c.args.id (pixels c.put_content-content.result)
+    (pixels c.in_ok-clear.clear) c.put_content-content.ensures.old)
 
 pub returns-clause-same : goal.returns-clause-same
 returns-clause-same g c =
-    put_back c.args.board.now c.put_content-content.new.self c.put_content-clear.new.self c.args.id
-    c.put_content-content.result.pixels c.in_ok-clear.clear.pixels
-    c.settle_by-settled.new.self.pixels c.known.ensures c.put_content-content.ensures.old
-    c.put_content-content.ensures.new c.put_content-clear.ensures.new
-    (ap (λ (l : LayerOf). l.pixels) c.settle_by-settled.ensures.same)
+    let b = c.args.board.now in
+    let out = c.put_content-content.new.self in
+    let settled = c.settle_by-settled.new.self in
+    let pixels = g.P.LayerPixels.pixels b.width b.height in
+    put_back b out c.put_content-clear.new.self c.args.id (pixels c.put_content-content.result)
+    (pixels c.in_ok-clear.clear) (g.P.LayerPixels.pixels out.width out.height settled)
+    c.known.ensures c.put_content-content.ensures.old c.put_content-content.ensures.new
+    c.put_content-clear.ensures.new
+    (ap (λ (o : Board). g.P.LayerPixels.pixels o.width o.height settled)
+    c.put_content-content.ensures.new
+    ∙ ap pixels c.settle_by-settled.ensures.same)
