@@ -318,6 +318,7 @@ fn read_beside<
 /// Reads a batch of `count` entries, while another thread, if one can be made, draws acts.
 fn draw_and_read<
     'a,
+    'b,
     P: SettlingPixels + Send,
     R: Threads + Sync,
     I: Source,
@@ -326,12 +327,12 @@ fn draw_and_read<
     T: Ledger + Send,
 >(
     crew: &'a Crew<'a, R, G>,
-    input: &mut I,
-    ahead: &mut Ahead<P>,
-    behind: &mut Behind<P>,
+    input: &'b mut I,
+    ahead: &'b mut Ahead<P>,
+    behind: &'a mut Behind<P>,
     count: usize,
-    draws: &mut Steps<D>,
-    tiles: &mut Steps<T>,
+    draws: &'a mut Steps<D>,
+    tiles: &'a mut Steps<T>,
 ) -> Batch
     ensures drawn { behind.new.drawn ≡ true → behind.new.board
         ≡ fold draw behind.old.board (drawn_among behind.old.ready.items) }
@@ -340,18 +341,16 @@ fn draw_and_read<
     ensures later { I.faults input.old ≤ I.faults input.new }
 {
     let alloc = crew.alloc;
-    let (_, batch) = join_mut(
-        crew.rt,
-        &mut ||
-            ensures { behind.exit.now.drawn ≡ true → behind.exit.now.board
-                ≡ fold draw behind.entry.now.board (drawn_among behind.entry.now.ready.items) }
-        { behind.draw(crew, draws, tiles) },
-        &mut || -> Batch
-            ensures { EndsBatch (I.left input.entry.now) (I.left input.exit.now)
-                (I.faults input.entry.now) (I.faults input.exit.now) ahead.entry.now ahead.exit.now
-                result × (I.faults input.entry.now ≤ I.faults input.exit.now) }
-        { read_batch(alloc, input, ahead, count) },
-    );
+    let mut draw_acts = ||
+        ensures { behind.exit.now.drawn ≡ true → behind.exit.now.board
+            ≡ fold draw behind.entry.now.board (drawn_among behind.entry.now.ready.items) }
+    { behind.draw(crew, draws, tiles) };
+    let mut read = move || -> Batch
+        ensures { EndsBatch (I.left input.entry.now) (I.left input.exit.now)
+            (I.faults input.entry.now) (I.faults input.exit.now) ahead.entry.now ahead.exit.now
+            result × (I.faults input.entry.now ≤ I.faults input.exit.now) }
+    { read_batch(alloc, input, ahead, count) };
+    let (_, batch) = join_mut(crew.rt, &mut draw_acts, &mut read);
     batch
 }
 

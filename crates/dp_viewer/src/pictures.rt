@@ -70,7 +70,7 @@ pub fn run_replay<P: LayerPixels, I: Source, O: Sink, D: Ledger, T: Ledger>(
 ///
 /// The rule: docs/protocol.md, "Recordings".
 pub fn run_play<
-    P: SettlingPixels + Send,
+    P: SettlingPixels + Send + Sync,
     R: Threads + Sync,
     I: Source,
     O: Sink,

@@ -37,7 +37,7 @@ pub(crate) struct WorkersBoard<'a, P: LayerPixels, R, G> {
     pub workers: Workers<'a, G>,
 }
 
-impl<'a, P: LayerPixels, R: Threads + Sync, G: Gate> WorkersBoard<'a, P, R, G> {
+impl<'a, P: LayerPixels + Sync, R: Threads + Sync, G: Gate> WorkersBoard<'a, P, R, G> {
     /// A board, with how many entries are left to show, or all.
     pub(crate) fn new(rt: &'a R, board: ShownBoard<P>, playing: Playing<'a, G>) -> Self
         ensures board { result.board ≡ board }
