@@ -37,17 +37,15 @@ ghost use Rattle.dp_sim.specs.Calls.{exchange, took_entry, CanTake, CanAct};
 use crate::reply_line::{cut_line, left_line, said_line};
 use dp_client::Client;
 use dp_epochs::{Answer, Entries, Event, Query, Reply};
-use dp_keeper::SureKeeper;
-use dp_machine::Machine;
 use dp_messages::{Entry, Msg};
 use dp_msg_draw::Draw;
 use dp_msg_meta::Control;
 use dp_schedule::{Instruction, ReportLine};
-use dp_session::Session;
 use dp_showing::clients_show;
 use dp_shown::ClientBoard;
 use dp_snap::{reset_begin, snapshot};
 use dp_steps::Steps;
+use dp_sure_session::SureSession;
 use std::alloc::{AllocError, Global};
 use std::collections::VecDeque;
 use std::marker::Model;
@@ -88,11 +86,11 @@ impl<B: ClientBoard> Model for Participant<B> {
 }
 
 /// The session takes an event.
-pub(crate) fn serve(session: &mut Session<SureKeeper>, event: Event) -> Result<Reply, AllocError>
-    requires { session.old.first_fault ≡ None }
-    ensures reply { IfOk result (λ reply. reply ≡ sure_answer session.old event) }
-    ensures ok { OnOk result (session.new ≡ sure_step session.old event) }
-    ensures first_fault { OnOk result (session.new.first_fault ≡ None) }
+pub(crate) fn serve<S: SureSession>(session: &mut S, event: Event) -> Result<Reply, AllocError>
+    requires { (S.past session.old).first_fault ≡ None }
+    ensures reply { IfOk result (λ reply. reply ≡ sure_answer (S.past session.old) event) }
+    ensures ok { OnOk result (S.past session.new ≡ sure_step (S.past session.old) event) }
+    ensures first_fault { OnOk result ((S.past session.new).first_fault ≡ None) }
 {
     let reply = session.step_surely(&event);
     drop(event);
@@ -172,12 +170,12 @@ impl<B: ClientBoard> Participant<B> {
     }
 
     /// The connection is closed, and so is the client.
-    fn disconnect(&mut self, session: &mut Session<SureKeeper>) -> Result<Reply, AllocError>
-        requires { session.old.first_fault ≡ None }
-        ensures reply { IfOk result (λ reply. reply ≡ sure_answer session.old
+    fn disconnect<S: SureSession>(&mut self, session: &mut S) -> Result<Reply, AllocError>
+        requires { (S.past session.old).first_fault ≡ None }
+        ensures reply { IfOk result (λ reply. reply ≡ sure_answer (S.past session.old)
             (event.Close self.old.conn)) }
-        ensures ok { OnOk result (exchange session.new self.new
-            ≡ disconnected (exchange session.old self.old)) }
+        ensures ok { OnOk result (exchange (S.past session.new) self.new
+            ≡ disconnected (exchange (S.past session.old) self.old)) }
     {
         let reply = serve(session, Event::Close { conn: self.conn })?;
         self.uplink.clear();
@@ -187,12 +185,12 @@ impl<B: ClientBoard> Participant<B> {
 
     /// The session takes the next message of the uplink, if there is one, and after a Disconnect
     /// the Close.
-    fn up(&mut self, session: &mut Session<SureKeeper>) -> Result<ReportLine, AllocError>
-        requires { session.old.first_fault ≡ None }
-        ensures line { IfOk result (λ line. line ≡ up_line (exchange session.old self.old)
-            self.old.uplink) }
-        ensures ok { OnOk result (exchange session.new self.new
-            ≡ uplink_sent (exchange session.old self.old) self.old.uplink) }
+    fn up<S: SureSession>(&mut self, session: &mut S) -> Result<ReportLine, AllocError>
+        requires { (S.past session.old).first_fault ≡ None }
+        ensures line { IfOk result (λ line. line
+            ≡ up_line (exchange (S.past session.old) self.old) self.old.uplink) }
+        ensures ok { OnOk result (exchange (S.past session.new) self.new
+            ≡ uplink_sent (exchange (S.past session.old) self.old) self.old.uplink) }
     {
         let Some(msg) = self.uplink.pop_front() else {
             return Ok(ReportLine::Empty);
@@ -208,10 +206,10 @@ impl<B: ClientBoard> Participant<B> {
     }
 
     /// Entries of which the first is the one that comes next, if there is one.
-    fn pull(&self, session: &Session<SureKeeper>) -> Result<Entries, AllocError>
-        requires { CanTake session.now self.now }
+    fn pull<S: SureSession>(&self, session: &S) -> Result<Entries, AllocError>
+        requires { CanTake (S.past session.now) self.now }
         ensures { IfOk result (λ entries. slice_get entries 0
-            ≡ next_entry (exchange session.now self.now)) }
+            ≡ next_entry (exchange (S.past session.now) self.now)) }
     {
         let query = Query::Pull {
             conn: self.conn,
@@ -226,21 +224,22 @@ impl<B: ClientBoard> Participant<B> {
     }
 
     /// The client takes the entry that comes next, if there is one.
-    fn take<D: Ledger, T: Ledger>(
+    fn take<S: SureSession, D: Ledger, T: Ledger>(
         &mut self,
-        session: &Session<SureKeeper>,
+        session: &S,
         draws: &mut Steps<D>,
         tiles: &mut Steps<T>,
     ) -> Result<ReportLine, AllocError>
-        requires { CanTake session.now self.old }
+        requires { CanTake (S.past session.now) self.old }
         ensures line { IfOk result (λ line. line
-            ≡ next_taken_line (exchange session.now self.old)
-            (next_entry (exchange session.now self.old))) }
-        ensures ok { OnOk result (exchange session.now self.new
-            ≡ took_next (exchange session.now self.old) (next_entry
-            (exchange session.now self.old))) }
-        ensures counts { CountsFew reach (next_due (exchange session.now self.old)
-            (next_entry (exchange session.now self.old))) draws.old draws.new tiles.old tiles.new }
+            ≡ next_taken_line (exchange (S.past session.now) self.old)
+            (next_entry (exchange (S.past session.now) self.old))) }
+        ensures ok { OnOk result (exchange (S.past session.now) self.new
+            ≡ took_next (exchange (S.past session.now) self.old)
+            (next_entry (exchange (S.past session.now) self.old))) }
+        ensures counts { CountsFew reach (next_due (exchange (S.past session.now) self.old)
+            (next_entry (exchange (S.past session.now) self.old)))
+            draws.old draws.new tiles.old tiles.new }
     {
         let entries = self.pull(session)?;
         match entries.as_slice().first() {
@@ -318,33 +317,33 @@ impl<B: ClientBoard> Participant<B> {
     }
 
     /// The uplink is lost, and the connection closed.
-    fn cut(&mut self, session: &mut Session<SureKeeper>) -> Result<ReportLine, AllocError>
-        requires { session.old.first_fault ≡ None }
+    fn cut<S: SureSession>(&mut self, session: &mut S) -> Result<ReportLine, AllocError>
+        requires { (S.past session.old).first_fault ≡ None }
         ensures line { IfOk result (λ line. line
-            ≡ cut_line (sure_answer session.old (event.Close self.old.conn))) }
-        ensures ok { OnOk result (exchange session.new self.new
-            ≡ disconnected (exchange session.old self.old)) }
+            ≡ cut_line (sure_answer (S.past session.old) (event.Close self.old.conn))) }
+        ensures ok { OnOk result (exchange (S.past session.new) self.new
+            ≡ disconnected (exchange (S.past session.old) self.old)) }
     {
         Ok(cut_line(self.disconnect(session)?))
     }
 
     /// The client does an instruction. After an error nothing is promised of the client and the
     /// session but for the counters.
-    pub(crate) fn act<D: Ledger, T: Ledger>(
+    pub(crate) fn act<S: SureSession, D: Ledger, T: Ledger>(
         &mut self,
         alloc: Global,
-        session: &mut Session<SureKeeper>,
+        session: &mut S,
         instruction: &Instruction,
         draws: &mut Steps<D>,
         tiles: &mut Steps<T>,
     ) -> Result<ReportLine, AllocError>
-        requires able { CanAct session.old self.old }
+        requires able { CanAct (S.past session.old) self.old }
         requires sayable { IsSayable instruction.now }
-        ensures line { IfOk result (λ line. line ≡ exchange_line (exchange session.old self.old)
-            instruction.now) }
-        ensures ok { OnOk result (exchange session.new self.new
-            ≡ exchanged (exchange session.old self.old) instruction.now) }
-        ensures counts { CountsFew reach (exchange_due (exchange session.old self.old)
+        ensures line { IfOk result (λ line. line
+            ≡ exchange_line (exchange (S.past session.old) self.old) instruction.now) }
+        ensures ok { OnOk result (exchange (S.past session.new) self.new
+            ≡ exchanged (exchange (S.past session.old) self.old) instruction.now) }
+        ensures counts { CountsFew reach (exchange_due (exchange (S.past session.old) self.old)
             instruction.now) draws.old draws.new tiles.old tiles.new }
     {
         if self.is_gone(instruction) {

@@ -16,44 +16,42 @@ use crate::participant::{Participant, serve};
 use dp_client::Client;
 use dp_epochs::{Event, Reply, histories_are_short};
 use dp_frame::Octets;
-use dp_keeper::{Rows, SureKeeper};
 use dp_schedule::{Instruction, ReportLine};
-use dp_session::Session;
 use dp_shown::ClientBoard;
 use dp_steps::Steps;
+use dp_sure_session::SureSession;
 use std::alloc::{AllocError, Global};
 use std::marker::Model;
 use std::sync::ledger::Ledger;
 
-/// The session of a schedule, and its clients in the order of their joins, numbered from 1. They
-/// draw on boards of one type.
+/// The session of a schedule, over a store that never fails, and its clients in the order of their
+/// joins, numbered from 1. They draw on boards of one type.
 ///
 /// The rule: docs/protocol.md, "The world".
 #[derive(Drop)]
-pub struct World<B: ClientBoard> {
-    session: Session<SureKeeper>,
+pub struct World<S: SureSession, B: ClientBoard> {
+    session: S,
     participants: Vec<Participant<B>>,
     alloc: Global,
 }
 
-impl<B: ClientBoard> Model for World<B> {
+impl<S: SureSession, B: ClientBoard> Model for World<S, B> {
     ghost use Rattle.dp_sim.specs.World.{World as Seen};
 
     ghost Value = { Seen };
 
-    ghost view = { λ w. record { past = w.session; participants = w.participants.items } };
+    ghost view = { λ w. record { past = S.past w.session; participants = w.participants.items } };
 }
 
-impl<B: ClientBoard> World<B> {
+impl<S: SureSession, B: ClientBoard> World<S, B> {
     /// The world before the first line.
     pub fn new(alloc: Global) -> Result<Self, AllocError>
         ensures first { IfOk result (λ world. world ≡ first_world) }
         ensures world { IfOk result IsWorld }
     {
         worlds_stay_worlds();
-        let keeper = SureKeeper::new(Rows::new(alloc));
         Ok(World {
-            session: Session::new(alloc, keeper)?,
+            session: S::new_sure(alloc)?,
             participants: Vec::new(alloc),
             alloc,
         })

@@ -19,7 +19,7 @@ use Rattle.dp_world_lines.specs.Draws.{DrawsFor}
 use Rattle.dp_world_lines.specs.Schedule.{AskFor, IsPossible, IsStep}
 
 -- the world of a machine
-abbrev pub world_of : {B : Type 0} → WorldRun B → World
+abbrev pub world_of : {S B : Type 0} → WorldRun S B → World
 world_of run = run.world
 
 -- why no action is had of a line: it asks for nothing that may be done in the world, or memory ran

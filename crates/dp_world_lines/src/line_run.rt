@@ -27,24 +27,25 @@ use dp_showing::Shown;
 use dp_shown::{ClientBoard, PictureEnd};
 use dp_sim::World;
 use dp_steps::Steps;
+use dp_sure_session::SureSession;
 use std::alloc::{AllocError, Global};
 use std::sync::ledger::Ledger;
 
 /// The machine of a schedule: it does a line in its world.
 #[derive(Drop)]
-pub struct WorldRun<B: ClientBoard> {
+pub struct WorldRun<S: SureSession, B: ClientBoard> {
     pub alloc: Global,
-    pub world: World<B>,
+    pub world: World<S, B>,
 }
 
-impl<B: ClientBoard> dp_lines::StepRule for WorldRun<B> {
+impl<S: SureSession, B: ClientBoard> dp_lines::StepRule for WorldRun<S, B> {
     ghost use Rattle.dp_world_lines.specs.Schedule.{IsStep};
 
     ghost is_step = { IsStep };
 }
 
-impl<B: ClientBoard, O: Sink, D: Ledger, T: Ledger> LineMachine<O, Steps<D>, Steps<T>>
-    for WorldRun<B> {
+impl<S: SureSession, B: ClientBoard, O: Sink, D: Ledger, T: Ledger>
+    LineMachine<O, Steps<D>, Steps<T>> for WorldRun<S, B> {
     ghost use Rattle.dp_sim.specs.Invariant.{IsWorld};
     ghost use Rattle.dp_world_lines.specs.Progress.{HasDone, HasEnded, world_of};
 
@@ -72,7 +73,7 @@ impl<B: ClientBoard, O: Sink, D: Ledger, T: Ledger> LineMachine<O, Steps<D>, Ste
     }
 }
 
-impl<B: ClientBoard> WorldRun<B> {
+impl<S: SureSession, B: ClientBoard> WorldRun<S, B> {
     /// A machine before the first line.
     pub fn new(alloc: Global) -> Result<Self, AllocError>
         ensures first { IfOk result (λ run. run.world ≡ first_world) }
