@@ -9,9 +9,9 @@ use dp_io::{Sink, Source};
 use dp_line_machine::ScriptEnd;
 use dp_lines::{RunEnd, further_step};
 use dp_script::run_lines;
-use dp_shown::{ClientBoard, PictureEnd};
+use dp_shown::PictureEnd;
+use dp_sim::ScheduleWorld;
 use dp_steps::Steps;
-use dp_sure_session::SureSession;
 use dp_world_lines::WorldRun;
 use std::alloc::Global;
 use std::sync::ledger::Ledger;
@@ -20,8 +20,8 @@ use std::sync::ledger::Ledger;
 const WORLD_LIMIT: usize = 1 << 26;
 
 /// Reads the lines of a schedule and does them one after the other. What a line prints is written
-/// before the next line is done. Its session is of the type `S`, over a store that never fails. Its
-/// clients draw on boards of the type `B`, and what they draw is counted.
+/// before the next line is done. They are done in a world of the type `W`, and what is drawn there is
+/// counted.
 ///
 /// # Errors
 ///
@@ -30,7 +30,7 @@ const WORLD_LIMIT: usize = 1 << 26;
 /// with `Memory` if memory ran out.
 ///
 /// The rule: docs/protocol.md, "The world".
-pub fn run_world<S: SureSession, B: ClientBoard, I: Source, O: Sink, D: Ledger, T: Ledger>(
+pub fn run_world<W: ScheduleWorld, I: Source, O: Sink, D: Ledger, T: Ledger>(
     alloc: Global,
     input: &mut I,
     output: &mut O,
@@ -45,8 +45,8 @@ pub fn run_world<S: SureSession, B: ClientBoard, I: Source, O: Sink, D: Ledger, 
     ensures input_later { I.faults input.old ≤ I.faults input.new }
     ensures output_later { O.faults output.old ≤ O.faults output.new }
 {
-    further_step::<WorldRun<S, B>>();
-    let Ok(mut machine) = WorldRun::<S, B>::new(alloc) else {
+    further_step::<WorldRun<W>>();
+    let Ok(mut machine) = WorldRun::<W>::new(alloc) else {
         return RunEnd::Memory;
     };
     run_end(run_lines(

@@ -1,6 +1,6 @@
 use Rattle.std.proofs.Common.{ap, ◌∙◌, sym, length}
-use Rattle.dp_sim.proofs.CallLemmas.{pull-is, next-is}
-use Rattle.dp_sim.proofs.participant.Participant.pull.Goals as goal
+use Rattle.dp_sim_world.proofs.CallLemmas.{pull-is, next-is}
+use Rattle.dp_sim_world.proofs.participant.Participant.pull.Goals as goal
 
 pub returns : goal.returns
 returns g c =
