@@ -79,14 +79,7 @@ pub fn run_drill<
 }
 
 /// What a drill prints.
-fn drill_text<
-    S: SureSession,
-    B: BatchBoard,
-    R: Threads + Sync,
-    G: Gate,
-    D: Ledger,
-    T: Ledger,
->(
+fn drill_text<S: SureSession, B: BatchBoard, R: Threads + Sync, G: Gate, D: Ledger, T: Ledger>(
     rt: &R,
     alloc: Global,
     drill: Drill,
@@ -99,8 +92,15 @@ fn drill_text<
         draws.old draws.new tiles.old tiles.new }
 {
     let entries = drill_history::<S>(alloc, drill)?;
-    let text =
-        summary_of::<B, R, G, D, T>(rt, alloc, drill, entries.as_slice(), workers, draws, tiles);
+    let text = summary_of::<B, R, G, D, T>(
+        rt,
+        alloc,
+        drill,
+        entries.as_slice(),
+        workers,
+        draws,
+        tiles,
+    );
     drop(entries);
     text
 }
