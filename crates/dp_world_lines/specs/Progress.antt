@@ -19,7 +19,7 @@ use Rattle.dp_world_lines.specs.Draws.{DrawsFor}
 use Rattle.dp_world_lines.specs.Schedule.{AskFor, IsPossible, IsStep}
 
 -- the world of a machine, by what its world is seen as
-abbrev pub world_of : {W : Type 0} → (W → World) → WorldRun W → World
+abbrev pub world_of : {W B : Type 0} → (W → World) → WorldRun W B → World
 world_of seen run = seen run.world
 
 -- why no action is had of a line: it asks for nothing that may be done in the world, or memory ran
