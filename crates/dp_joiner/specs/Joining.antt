@@ -23,6 +23,8 @@ use Rattle.dp_client.specs.Due.{canvas_due, said_due}
 use Rattle.dp_showing.specs.declared.showing.Shown.TheVariants as shown
 use Rattle.dp_showing.specs.Resets.{client_reset}
 use Rattle.dp_showing.specs.Showing.{shown_text}
+use Rattle.dp_join_link.specs.Given.{takeable}
+use Rattle.dp_join_link.specs.Sent.{ack_bytes, hello_bytes, sent_by}
 use Rattle.dp_joiner.specs.declared.chats.ChatLine.{ChatLine}
 
 -- ---- what is printed

@@ -22,6 +22,7 @@ use Rattle.dp_join_link.specs.declared.stops.JoinStop.TheVariants.{WriteFault, L
 use Rattle.dp_join_link.specs.declared.stops.JoinStop.TheVariants.{NoEntry}
 use Rattle.dp_joiner.specs.Joining.{Joining, after_line, asked_by, chat_limit}
 use Rattle.dp_join_link.specs.Given.{takeable}
+use Rattle.dp_join_link.specs.Reading.{IsNoEntry, IsReadable, ReadsOn, ReadsUpTo, Source}
 
 -- the count of the output's faults if printing stops with this
 abbrev pub FaultMatchesPrinting : ℕ → ℕ → JoinStop → Type 0
