@@ -13,7 +13,7 @@ ghost use Rattle.dp_joiner.specs.Steps.{Changes, Does, IsReady, seen};
 use crate::chats::{ChatLine, keep_chat};
 use crate::greeting::Greeting;
 use crate::printing::{print_chats, print_line, print_sent};
-use crate::resets::send_client;
+use crate::reset::send_client;
 use circular_buffer::HeapCircularBuffer;
 use dp_client::Client;
 use dp_entries::EntryReader;

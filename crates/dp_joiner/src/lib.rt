@@ -1,5 +1,5 @@
-//! A client over a link: it greets the server, says messages, takes entries, sends its reset, prints
-//! lines of chat, and says that it leaves.
+//! A client over a link: it greets the server, says messages, takes entries, sends its reset,
+//! prints lines of chat, and says that it leaves.
 //!
 //! The rule: docs/protocol.md, "Joining".
 #![tactic(auto)]
@@ -8,7 +8,7 @@ mod chats;
 mod greeting;
 mod joiner;
 mod printing;
-mod resets;
+mod reset;
 
 pub use chats::ChatLine;
 pub use greeting::{Greeting, greet};

@@ -30,8 +30,9 @@ returns-in-Confirmed g c =
     let see = seen g.O.Sink.held g.O.Sink.faults in
     rw c.in-Confirmed.is (does_alone c.show_client-in-Confirmed.result
     (see c.args.joiner.now c.args.output.now c.args.draws.now c.args.tiles.now)
-    (see c.args.joiner.now c.show_client-in-Confirmed.new.output c.args.draws.now c.args.tiles.now) Confirmed
-    refl c.requires.ready refl (anyhow c.show_client-in-Confirmed.result refl)
+    (see c.args.joiner.now c.show_client-in-Confirmed.new.output c.args.draws.now
+    c.args.tiles.now) Confirmed refl c.requires.ready refl
+    (anyhow c.show_client-in-Confirmed.result refl)
     (c.show_client-in-Confirmed.ensures c.args.draws.now c.args.tiles.now))
 
 pub returns-in-Snapshot : goal.returns-in-Snapshot
@@ -39,8 +40,9 @@ returns-in-Snapshot g c =
     let see = seen g.O.Sink.held g.O.Sink.faults in
     rw c.in-Snapshot.is (does_alone c.show_client-in-Snapshot.result
     (see c.args.joiner.now c.args.output.now c.args.draws.now c.args.tiles.now)
-    (see c.args.joiner.now c.show_client-in-Snapshot.new.output c.args.draws.now c.args.tiles.now) Snapshot
-    refl c.requires.ready refl (anyhow c.show_client-in-Snapshot.result refl)
+    (see c.args.joiner.now c.show_client-in-Snapshot.new.output c.args.draws.now
+    c.args.tiles.now) Snapshot refl c.requires.ready refl
+    (anyhow c.show_client-in-Snapshot.result refl)
     (c.show_client-in-Snapshot.ensures c.args.draws.now c.args.tiles.now))
 
 pub reset-requires : goal.reset-requires

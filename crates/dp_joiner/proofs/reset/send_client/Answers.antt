@@ -7,7 +7,7 @@ use Rattle.dp_snap.specs.Snapshot.{snapshot}
 use Rattle.dp_join_link.specs.Sent.{sent_by}
 use Rattle.dp_joiner.proofs.Moving.{grows_not}
 use Rattle.dp_joiner.proofs.Resets.{reset_length, resets_are}
-use Rattle.dp_joiner.proofs.resets.send_client.Goals as goal
+use Rattle.dp_joiner.proofs.reset.send_client.Goals as goal
 
 pub returns-in_err-commands-clause-prefix : goal.returns-in_err-commands-clause-prefix
 returns-in_err-commands-clause-prefix g c = grows_not _ _

@@ -3,7 +3,7 @@ use Rattle.std.specs.List.{flat_map}
 use Rattle.std.specs.Io.KnownBytes.{Appends}
 use Rattle.dp_messages.specs.declared.message.Msg.TheVariants as msg
 use Rattle.dp_join_link.specs.Sent.{sent_by}
-use Rattle.dp_joiner.proofs.resets.send_parts.Given as goal
+use Rattle.dp_joiner.proofs.reset.send_parts.Given as goal
 
 -- the parts of the commands before the place were written, and no fault was counted
 abbrev pub invariant-loop-command : goal.invariant-loop-command

@@ -4,7 +4,7 @@ use Rattle.dp_msg_draw.specs.declared.draw.Draw.{Draw}
 use Rattle.dp_messages.specs.declared.message.Msg.TheVariants as msg
 use Rattle.dp_showing.proofs.Pieces.{written_more, written_part}
 use Rattle.dp_join_link.specs.Sent.{sent_by, FaultMatchesWriting}
-use Rattle.dp_joiner.proofs.resets.send_parts.Goals as goal
+use Rattle.dp_joiner.proofs.reset.send_parts.Goals as goal
 
 pub loop-command-preserved : goal.loop-command-preserved
 loop-command-preserved g c = record {

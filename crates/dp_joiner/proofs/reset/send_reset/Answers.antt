@@ -8,7 +8,7 @@ use Rattle.dp_showing.proofs.Pieces.{prefix_is, written_both, written_is}
 use Rattle.dp_join_link.specs.Sent.{sent_by}
 use Rattle.dp_snap.specs.Resets.{reset_messages}
 use Rattle.dp_joiner.proofs.Resets.{reset_bytes}
-use Rattle.dp_joiner.proofs.resets.send_reset.Goals as goal
+use Rattle.dp_joiner.proofs.reset.send_reset.Goals as goal
 
 pub returns-in_err-send-clause-prefix : goal.returns-in_err-send-clause-prefix
 returns-in_err-send-clause-prefix g c =
