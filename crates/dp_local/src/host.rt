@@ -1,4 +1,4 @@
-//! What a command is run on, and what it may use beside its input and output.
+//! What the program runs on.
 
 use std::alloc::{AllocError, Global};
 
@@ -16,11 +16,4 @@ impl<'a, R, G> Clone for Host<'a, R, G> {
     fn clone(&self) -> Result<Host<'a, R, G>, AllocError> {
         Ok(*self)
     }
-}
-
-/// The wires and the store that a command is handed. They come back with how it ended.
-#[derive(Drop)]
-pub struct Resources<W, K> {
-    pub wires: Vec<W>,
-    pub keeper: K,
 }

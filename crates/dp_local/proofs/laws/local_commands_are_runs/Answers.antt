@@ -1,6 +1,6 @@
 -- Each command by the law that its input comes to one end.
-use Rattle.dp_commands.proofs.LocalRuns.{each-is}
-use Rattle.dp_commands.proofs.laws.local_commands_are_runs.Goals as goal
+use Rattle.dp_local.proofs.LocalRuns.{each-is}
+use Rattle.dp_local.proofs.laws.local_commands_are_runs.Goals as goal
 
 pub returns : goal.returns
 returns c = each-is

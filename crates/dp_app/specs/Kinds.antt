@@ -11,8 +11,8 @@ use Rattle.dp_endings.specs.declared.ending.Ending.TheVariants.{StoreFault, BadR
 use Rattle.dp_commands.specs.Commands.{AskAndLack, Asks, IsCommand, LacksWires}
 use Rattle.dp_commands.specs.Effects.{Effects, NothingIsDone, StaysLocal, Wires}
 use Rattle.dp_commands.specs.Joins.{JoinsOn}
-use Rattle.dp_commands.specs.Runs as runs
-use Rattle.dp_commands.specs.Runs.{run_of}
+use Rattle.dp_local.specs.Runs as runs
+use Rattle.dp_local.specs.Runs.{run_of}
 use Rattle.dp_commands.specs.Servers.{RunsServer}
 
 -- a run on the input and the output alone, with this end

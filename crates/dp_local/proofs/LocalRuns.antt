@@ -24,8 +24,8 @@ use Rattle.dp_world_lines.specs.Schedule.{WorldComesTo}
 use Rattle.dp_drill.specs.Leaves.{WritesText}
 use Rattle.dp_drill.specs.Summary.{drill_text}
 use Rattle.dp_endings.specs.Answer.{answer_for}
-use Rattle.dp_commands.specs.Runs.{IsReadWhole, IsLocalRun, IsUnfailed, drill_run, picture_run}
-use Rattle.dp_commands.specs.Runs.{run_of, world_run}
+use Rattle.dp_local.specs.Runs.{IsReadWhole, IsLocalRun, IsUnfailed, drill_run, picture_run}
+use Rattle.dp_local.specs.Runs.{run_of, world_run}
 
 -- ---- pictures
 

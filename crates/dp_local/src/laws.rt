@@ -1,7 +1,7 @@
 //! Laws of the commands. Each function does nothing but call others: its contract is the law.
 
 ghost use Rattle.dp_words.specs.declared.command_line.LocalCommand.{LocalCommand};
-ghost use Rattle.dp_commands.specs.Runs.{IsLocalRun, run_of};
+ghost use Rattle.dp_local.specs.Runs.{IsLocalRun, run_of};
 
 use dp_viewer::{each_play_ends, each_replay_ends, one_play, one_replay};
 use dp_world::{every_schedule, one_schedule};

@@ -8,7 +8,7 @@ use Rattle.dp_words.specs.declared.command_line.CommandLine.TheVariants.{Local, 
 use Rattle.dp_endings.specs.Answer.{Answer, answer_for, no_link_answer, usage_answer}
 use Rattle.dp_commands.specs.Commands.{Asks, HasLink, IsCommand}
 use Rattle.dp_commands.specs.Effects.{Wires}
-use Rattle.dp_commands.specs.Runs.{run_of}
+use Rattle.dp_local.specs.Runs.{run_of}
 
 -- The answer that the command is due for an input of these bytes, and a link that gives these
 -- bytes, if it gets one. (A server that gets its wires is due no such answer.)
