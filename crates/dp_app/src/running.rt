@@ -16,6 +16,7 @@ use dp_io::{Sink, Source};
 use dp_keeper::{Keeper, SureKeeper};
 use dp_local::{Host, run_local};
 use dp_session::Session;
+use dp_sim_world::World;
 use dp_steps::Steps;
 use dp_wire::{Gate, Wire};
 use dp_words::{CommandLine, read_words};
@@ -24,8 +25,11 @@ use std::sync::Wait;
 use std::sync::ledger::Ledger;
 use std::thread::Threads;
 
-/// The session of a world and of a drill.
+/// The session of a drill, and of the world of a schedule.
 type SureEvents = Session<SureKeeper>;
+
+/// The world of a schedule.
+type CanvasWorld = World<SureEvents, Canvas>;
 
 /// Runs what the words ask for, with the wires if that takes links.
 pub(crate) fn run_words<
@@ -101,9 +105,10 @@ fn run_command<
 {
     match command {
         CommandLine::Local(command) => {
-            let end = run_local::<SureEvents, Canvas, DeferredPixels, R, I, O, G, D, T>(
-                host, command, input, output, draws, tiles,
-            );
+            let end =
+                run_local::<CanvasWorld, SureEvents, Canvas, DeferredPixels, R, I, O, G, D, T>(
+                    host, command, input, output, draws, tiles,
+                );
             Ran::without(host.alloc, Ending::Run(end), resources)
         }
         CommandLine::Join { addr: _, name } => run_link::<Canvas, I, O, W, K, D, T>(

@@ -11,6 +11,7 @@ use dp_drill::{Drill, run_drill};
 use dp_io::{Sink, Source};
 use dp_lines::RunEnd;
 use dp_par::Workers;
+use dp_sim::ScheduleWorld;
 use dp_steps::Steps;
 use dp_sure_session::SureSession;
 use dp_viewer::{Playing, run_play, run_replay};
@@ -20,9 +21,10 @@ use dp_world::run_world;
 use std::sync::ledger::Ledger;
 use std::thread::Threads;
 
-/// Runs a command on the input and the output alone. A world and a drill keep their events in an
-/// `S`, and their canvases are `B`s. A picture's layers are `P`s.
+/// Runs a command on the input and the output alone. A schedule is done in a world `W`. A drill has
+/// a session `S` and boards `B`, and a picture's layers have pixels `P`.
 pub fn run_local<
+    W: ScheduleWorld,
     S: SureSession,
     B: BatchBoard,
     P: SettlingPixels + Send,
@@ -54,7 +56,7 @@ pub fn run_local<
             run_replay::<P, I, O, D, T>(alloc, input, output, draws, tiles)
         }
         LocalCommand::World => {
-            run_world::<S, B, I, O, D, T>(alloc, input, output, draws, tiles)
+            run_world::<W, I, O, D, T>(alloc, input, output, draws, tiles)
         }
         LocalCommand::Play { at, workers } => {
             let (at, workers) = (*at, *workers);
