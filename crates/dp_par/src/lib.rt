@@ -6,11 +6,10 @@ ghost use Rattle.std.specs.Thread.{IsSend, IsSync};
 
 mod workers;
 
-pub use workers::Workers;
-
 use dp_wire::Gate;
 use std::sync::atomic::{AtomicU32, Ordering};
 use std::thread::{Threads, for_each_mut, join, join_mut};
+pub use workers::Workers;
 
 /// What is run once. What a run leaves is to be told by what the job held, since jobs run in any
 /// order.
