@@ -41,21 +41,23 @@ struct Asked<'a> {
     journal: Option<Word>,
 }
 
-/// Opens what the program's words want.
-///
-/// # Errors
-///
-/// The program's status, if memory ran out or the store can't be opened. Standard error then has
-/// the reason.
-pub fn given(rt: &HostRuntime) -> Result<Given<'_>, u8> {
-    match read_asked(rt) {
-        Ok(asked) => open(rt, asked),
-        Err(AllocError) => Err(refuse(rt, KeepError::Memory)),
+impl<'a> Given<'a> {
+    /// Opens what the program's words want.
+    ///
+    /// # Errors
+    ///
+    /// The program's status, if memory ran out or the store can't be opened. Standard error then has
+    /// the reason.
+    pub fn open(rt: &'a HostRuntime) -> Result<Given<'a>, u8> {
+        match read_asked(rt) {
+            Ok(asked) => with_store(rt, asked),
+            Err(AllocError) => Err(refuse(rt, KeepError::Memory)),
+        }
     }
 }
 
 /// Opens the store, and has the rest beside it.
-fn open<'a>(rt: &'a HostRuntime, asked: Asked<'a>) -> Result<Given<'a>, u8> {
+fn with_store<'a>(rt: &'a HostRuntime, asked: Asked<'a>) -> Result<Given<'a>, u8> {
     let Asked {
         words,
         wires,
