@@ -1,7 +1,7 @@
 use Rattle.dp_schedule.specs.declared.action.Action.TheVariants.{Act}
 use Rattle.dp_sim.specs.World.{after}
-use Rattle.dp_sim.proofs.CallLemmas.{on-ok-world}
-use Rattle.dp_sim.proofs.world.World.act.Goals as goal
+use Rattle.dp_sim_world.proofs.CallLemmas.{on-ok-world}
+use Rattle.dp_sim_world.proofs.world.WorldScheduleWorld.act.Goals as goal
 
 pub returns-clause-world : goal.returns-clause-world
 returns-clause-world g c =

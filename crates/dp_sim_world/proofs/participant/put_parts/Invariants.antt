@@ -1,6 +1,6 @@
 use Rattle.std.proofs.Common.{◌≡◌, ◌++◌, map, take}
 use Rattle.dp_messages.specs.declared.message.Msg.TheVariants as msg
-use Rattle.dp_sim.proofs.participant.put_parts.Given as goal
+use Rattle.dp_sim_world.proofs.participant.put_parts.Given as goal
 
 -- the commands before the place have joined
 abbrev pub invariant-loop-command : goal.invariant-loop-command

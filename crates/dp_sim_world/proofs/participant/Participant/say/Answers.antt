@@ -1,4 +1,4 @@
-use Rattle.dp_sim.proofs.participant.Participant.say.Goals as goal
+use Rattle.dp_sim_world.proofs.participant.Participant.say.Goals as goal
 
 pub returns-in_err-say-clause-counts : goal.returns-in_err-say-clause-counts
 returns-in_err-say-clause-counts g c = c.clients_show.ensures.counts _ _ _ _ _ c.say.ensures.counts

@@ -1,11 +1,11 @@
 use Rattle.std.proofs.Common.{ap, subst}
 use Rattle.dp_board.specs.Counts.{CountsFew}
 use Rattle.dp_pixels.specs.Feet.{reach}
-use Rattle.dp_sim.specs.Calls.{exchange}
+use Rattle.dp_sim_world.specs.Calls.{exchange}
 use Rattle.dp_sim.specs.Due.{exchange_due}
 use Rattle.dp_sim.specs.World.{World, participant_of}
-use Rattle.dp_sim.proofs.CallLemmas.{counts-of, numbered-is}
-use Rattle.dp_sim.proofs.world.World.play.Goals as goal
+use Rattle.dp_sim_world.proofs.CallLemmas.{counts-of, numbered-is}
+use Rattle.dp_sim_world.proofs.world.World.play.Goals as goal
 
 pub returns-clause-counts : goal.returns-clause-counts
 returns-clause-counts g c =

@@ -1,7 +1,7 @@
 use Rattle.dp_schedule.specs.declared.action.Action.TheVariants.{Join}
 use Rattle.dp_sim.specs.World.{after}
-use Rattle.dp_sim.proofs.CallLemmas.{on-ok-world}
-use Rattle.dp_sim.proofs.world.World.join.Goals as goal
+use Rattle.dp_sim_world.proofs.CallLemmas.{on-ok-world}
+use Rattle.dp_sim_world.proofs.world.WorldScheduleWorld.join.Goals as goal
 
 pub returns-clause-world : goal.returns-clause-world
 returns-clause-world g c =

@@ -3,7 +3,7 @@ use Rattle.dp_board.specs.Counts.{CountsFew}
 use Rattle.dp_client.specs.Due.{canvas_due}
 use Rattle.dp_pixels.specs.Feet.{reach}
 use Rattle.dp_sim.specs.Exchanges.{Participant}
-use Rattle.dp_sim.proofs.participant.Participant.take_entry.Goals as goal
+use Rattle.dp_sim_world.proofs.participant.Participant.take_entry.Goals as goal
 
 pub returns-in_err-taken-clause-counts : goal.returns-in_err-taken-clause-counts
 returns-in_err-taken-clause-counts g c =

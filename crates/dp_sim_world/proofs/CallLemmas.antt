@@ -23,7 +23,7 @@ use Rattle.dp_epochs.specs.State.{State, epoch_of, where_open, connection_of}
 use Rattle.dp_epochs.specs.Past.{Past, state_of}
 use Rattle.dp_epochs.specs.Pull.{page, pulled_from, pulled_by, pulled_where, answered}
 use Rattle.dp_sim.specs.Exchanges.{Participant, next_entry}
-use Rattle.dp_sim.specs.Calls.{exchange, CanTake}
+use Rattle.dp_sim_world.specs.Calls.{exchange, CanTake}
 use Rattle.dp_sim.specs.Due.{exchange_due}
 use Rattle.dp_sim.specs.World.{World}
 use Rattle.dp_sim.specs.Invariant.{IsWorld}

@@ -11,61 +11,39 @@ ghost use Rattle.dp_sim.specs.World.{first_world, after, participant_of, join_li
 ghost use Rattle.dp_sim.specs.World.{length_of};
 ghost use Rattle.dp_sim.specs.Invariant.{IsWorld, IsSayable};
 
-use crate::laws::worlds_stay_worlds;
 use crate::participant::{Participant, serve};
 use dp_client::Client;
 use dp_epochs::{Event, Reply, histories_are_short};
 use dp_frame::Octets;
-use dp_keeper::{Rows, SureKeeper};
 use dp_schedule::{Instruction, ReportLine};
-use dp_session::Session;
 use dp_shown::ClientBoard;
+use dp_sim::{ScheduleWorld, worlds_stay_worlds};
 use dp_steps::Steps;
+use dp_sure_session::SureSession;
 use std::alloc::{AllocError, Global};
 use std::marker::Model;
 use std::sync::ledger::Ledger;
 
-/// The session of a schedule, and its clients in the order of their joins, numbered from 1. They
-/// draw on boards of one type.
+/// The session of a schedule, over a store that never fails, and its clients in the order of their
+/// joins, numbered from 1. They draw on boards of one type.
 ///
 /// The rule: docs/protocol.md, "The world".
 #[derive(Drop)]
-pub struct World<B: ClientBoard> {
-    session: Session<SureKeeper>,
+pub struct World<S: SureSession, B: ClientBoard> {
+    session: S,
     participants: Vec<Participant<B>>,
     alloc: Global,
 }
 
-impl<B: ClientBoard> Model for World<B> {
+impl<S: SureSession, B: ClientBoard> Model for World<S, B> {
     ghost use Rattle.dp_sim.specs.World.{World as Seen};
 
     ghost Value = { Seen };
 
-    ghost view = { λ w. record { past = w.session; participants = w.participants.items } };
+    ghost view = { λ w. record { past = S.past w.session; participants = w.participants.items } };
 }
 
-impl<B: ClientBoard> World<B> {
-    /// The world before the first line.
-    pub fn new(alloc: Global) -> Result<Self, AllocError>
-        ensures first { IfOk result (λ world. world ≡ first_world) }
-        ensures world { IfOk result IsWorld }
-    {
-        worlds_stay_worlds();
-        let keeper = SureKeeper::new(Rows::new(alloc));
-        Ok(World {
-            session: Session::new(alloc, keeper)?,
-            participants: Vec::new(alloc),
-            alloc,
-        })
-    }
-
-    /// Whether there is a client of this number.
-    pub fn has(&self, client: u32) -> bool
-        ensures { result ≡ is_some (participant_of self.now client) }
-    {
-        client != 0 && (client as usize) <= self.participants.len()
-    }
-
+impl<S: SureSession, B: ClientBoard> World<S, B> {
     /// A user asks to join.
     fn admit(&mut self, name: Octets, registered: bool) -> Result<ReportLine, AllocError>
         requires { IsWorld self.old }
@@ -123,55 +101,43 @@ impl<B: ClientBoard> World<B> {
         let participant = &mut self.participants[client as usize - 1];
         participant.act(self.alloc, &mut self.session, instruction, draws, tiles)
     }
+}
 
-    /// A user asks to join.
-    ///
-    /// # Errors
-    ///
-    /// If memory runs out. Nothing is promised of the world then.
-    pub fn join(&mut self, name: Octets, registered: bool) -> Result<ReportLine, AllocError>
-        requires { IsWorld self.old }
-        ensures line { IfOk result (λ line. line
-            ≡ join_line (length_of self.old) (sure_answer self.old.past (Open name registered))) }
-        ensures ok { OnOk result (self.new ≡ after self.old (Join name registered)) }
-        ensures world { OnOk result (IsWorld self.new) }
-    {
+impl<S: SureSession, B: ClientBoard> ScheduleWorld for World<S, B> {
+    type Board = B;
+
+    ghost seen = { λ w. w };
+
+    fn new(alloc: Global) -> Result<Self, AllocError> {
+        worlds_stay_worlds();
+        Ok(World {
+            session: S::new_sure(alloc)?,
+            participants: Vec::new(alloc),
+            alloc,
+        })
+    }
+
+    fn has(&self, client: u32) -> bool {
+        client != 0 && (client as usize) <= self.participants.len()
+    }
+
+    fn join(&mut self, name: Octets, registered: bool) -> Result<ReportLine, AllocError> {
         worlds_stay_worlds();
         self.admit(name, registered)
     }
 
-    /// The client of this number does an instruction.
-    ///
-    /// # Errors
-    ///
-    /// If memory runs out. Nothing is promised of the world then.
-    pub fn act<D: Ledger, T: Ledger>(
+    fn act<D: Ledger, T: Ledger>(
         &mut self,
         client: u32,
         instruction: &Instruction,
         draws: &mut Steps<D>,
         tiles: &mut Steps<T>,
-    ) -> Result<ReportLine, AllocError>
-        requires world { IsWorld self.old }
-        requires client { IsSome (participant_of self.old client) }
-        requires sayable { IsSayable instruction.now }
-        ensures line { IfOk result (λ line. IfSome (participant_of self.old client) (λ participant.
-            line ≡ acted_line self.old.past participant instruction.now)) }
-        ensures ok { OnOk result (self.new ≡ after self.old (Act client instruction.now)) }
-        ensures world { OnOk result (IsWorld self.new) }
-        ensures counts { CountsFew reach (action_due self.old (Act client instruction.now))
-            draws.old draws.new tiles.old tiles.new }
-    {
+    ) -> Result<ReportLine, AllocError> {
         worlds_stay_worlds();
         self.play(client, instruction, draws, tiles)
     }
 
-    /// What the client of this number has taken and said.
-    pub fn client(&self, client: u32) -> &Client<B>
-        requires { IsSome (participant_of self.now client) }
-        ensures { IfSome (participant_of self.now client)
-            (λ participant. result.now ≡ participant.state) }
-    {
+    fn client(&self, client: u32) -> &Client<B> {
         self.participants[client as usize - 1].client()
     }
 }
