@@ -1,3 +1,4 @@
+pub mod Acting
 pub mod Doing
 pub mod Leaving
 pub mod Starting
