@@ -1,5 +1,5 @@
 use Rattle.std.proofs.Common.{◌≡◌, take}
-use Rattle.dp_tile.proofs.shared.share_all.Given as goal
+use Rattle.dp_shared.proofs.shared.share_all.Given as goal
 
 -- those up to the index
 abbrev pub invariant-loop-item : goal.invariant-loop-item

@@ -1,5 +1,5 @@
 use Rattle.std.proofs.Common.{◌≡◌, replicate}
-use Rattle.dp_tile.proofs.shared.repeated.Given as goal
+use Rattle.dp_shared.proofs.shared.repeated.Given as goal
 
 -- as many as were made
 abbrev pub invariant-loop-made : goal.invariant-loop-made

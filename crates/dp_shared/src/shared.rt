@@ -6,18 +6,14 @@ use std::alloc::{AllocError, Global};
 use std::sync::Arc;
 
 /// What several lists may have in common.
-pub(crate) trait Shareable: Sized + Drop {
+pub trait Shareable: Sized + Drop {
     /// Another handle on the same.
     fn share(&self) -> Result<Self, AllocError>
         ensures { IfOk result (λ other. other ≡ self.now) };
 }
 
-// `count` handles on the same.
-pub(crate) fn repeated<X: Shareable>(
-    alloc: Global,
-    count: usize,
-    item: &X,
-) -> Result<Vec<X>, AllocError>
+/// `count` handles on the same.
+pub fn repeated<X: Shareable>(alloc: Global, count: usize, item: &X) -> Result<Vec<X>, AllocError>
     ensures { IfOk result (λ items. items.items ≡ replicate count item.now) }
 {
     let mut items = Vec::with_capacity(alloc, count)?;
@@ -38,9 +34,9 @@ fn share_all<X: Shareable>(alloc: Global, items: &[X]) -> Result<Vec<X>, AllocEr
     Ok(copies)
 }
 
-// Makes a list the caller's alone: a copy of it, if others have it too.
+/// Makes a list the caller's alone: a copy of it, if others have it too.
 #[inline(never)]
-pub(crate) fn own<X: Shareable>(alloc: Global, items: &mut Arc<Vec<X>>) -> Result<(), AllocError>
+pub fn own<X: Shareable>(alloc: Global, items: &mut Arc<Vec<X>>) -> Result<(), AllocError>
     ensures { items.new.value.items ≡ items.old.value.items }
 {
     match Arc::get_mut(items) {
