@@ -8,7 +8,7 @@ ghost use Rattle.dp_io.specs.Faults.{Rose};
 ghost use Rattle.dp_serve_laws.specs.Acts.{KeepsActs};
 ghost use Rattle.dp_serve_laws.specs.Reported.{reported};
 ghost use Rattle.dp_serve.specs.declared.report.LinkReport.{LinkReport};
-ghost use Rattle.dp_serve.specs.Links.{link_seen};
+ghost use Rattle.dp_link_run.specs.Links.{link_seen};
 ghost use Rattle.dp_lines.specs.declared.run_end.RunEnd.{RunEnd};
 ghost use Rattle.dp_lines.specs.declared.run_end.RunEnd.TheVariants.{Memory};
 ghost use Rattle.dp_words.specs.declared.command_line.CommandLine.{CommandLine};

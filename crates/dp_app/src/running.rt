@@ -105,10 +105,18 @@ fn run_command<
 {
     match command {
         CommandLine::Local(command) => {
-            let end =
-                run_local::<CanvasWorld, SureEvents, Canvas, DeferredPixels, R, I, O, G, D, T>(
-                    host, command, input, output, draws, tiles,
-                );
+            let end = run_local::<
+                CanvasWorld,
+                SureEvents,
+                Canvas,
+                DeferredPixels,
+                R,
+                I,
+                O,
+                G,
+                D,
+                T,
+            >(host, command, input, output, draws, tiles);
             Ran::without(host.alloc, Ending::Run(end), resources)
         }
         CommandLine::Join { addr: _, name } => run_link::<Canvas, I, O, W, K, D, T>(

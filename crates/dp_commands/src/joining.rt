@@ -42,8 +42,9 @@ pub fn run_link<B: ClientBoard, I: Source, O: Sink, W: Wire, K: Keeper, D: Ledge
     ensures output_later { O.faults output.old ≤ O.faults output.new }
 {
     let Resources { mut wires, keeper } = resources;
-    let ending =
-        join_first::<B, I, O, W, D, T>(alloc, name, input, output, &mut wires, draws, tiles);
+    let ending = join_first::<B, I, O, W, D, T>(
+        alloc, name, input, output, &mut wires, draws, tiles,
+    );
     Ran::without(alloc, ending, Resources { wires, keeper })
 }
 

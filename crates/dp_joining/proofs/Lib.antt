@@ -1,4 +1,4 @@
-pub mod Acting
+pub mod Alone
 pub mod Doing
 pub mod Leaving
 pub mod Starting

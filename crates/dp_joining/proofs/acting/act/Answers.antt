@@ -3,7 +3,7 @@ use Rattle.dp_client.specs.Client.{State}
 use Rattle.dp_schedule.specs.declared.join_action.JoinAction.TheVariants.{Say, View, Confirmed}
 use Rattle.dp_schedule.specs.declared.join_action.JoinAction.TheVariants.{Snapshot, Reset, Chat}
 use Rattle.dp_joiner.specs.Steps.{seen}
-use Rattle.dp_joining.proofs.Acting.{does_alone}
+use Rattle.dp_joining.proofs.Alone.{does_alone}
 use Rattle.dp_joiner.proofs.Moving.{anyhow}
 use Rattle.dp_joining.proofs.acting.act.Goals as goal
 

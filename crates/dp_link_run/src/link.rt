@@ -9,10 +9,10 @@ ghost use Rattle.dp_link.specs.declared.ends.DownEnd.TheVariants as downs;
 ghost use Rattle.dp_link.specs.Acts.{ActsOnce};
 ghost use Rattle.dp_io.specs.Limits.{stream_limit};
 ghost use Rattle.dp_link.specs.Sending.{session_of};
-ghost use Rattle.dp_serve.specs.Links.{link_seen};
-ghost use Rattle.dp_serve.specs.Links.{is_up_memory, is_down_memory, is_failed, is_store_fault};
-ghost use Rattle.dp_serve.specs.Talking.{WasServed, Talks, is_store_end, is_last_failed};
-ghost use Rattle.dp_serve.specs.Talking.{is_last_store_fault};
+ghost use Rattle.dp_link_run.specs.Links.{link_seen};
+ghost use Rattle.dp_link_run.specs.Links.{is_up_memory, is_down_memory, is_failed, is_store_fault};
+ghost use Rattle.dp_link_run.specs.Talking.{WasServed, Talks, is_store_end, is_last_failed};
+ghost use Rattle.dp_link_run.specs.Talking.{is_last_store_fault};
 
 use crate::pumps::{Pumped, run_pumps};
 use dp_any_session::{AnySession, SessionCore};
@@ -31,12 +31,12 @@ use std::thread::Threads;
 
 /// How a link ended, whether memory ran out on it, and whether the store failed in one of its acts.
 #[derive(Clone, Copy)]
-pub(crate) struct LinkEnd {
-    pub(crate) conn: Option<u32>,
-    pub(crate) up: UpEnd,
-    pub(crate) down: DownEnd,
-    pub(crate) memory: bool,
-    pub(crate) store: bool,
+pub struct LinkEnd {
+    pub conn: Option<u32>,
+    pub up: UpEnd,
+    pub down: DownEnd,
+    pub memory: bool,
+    pub store: bool,
 }
 
 impl LinkEnd {
@@ -78,15 +78,15 @@ impl LinkEnd {
 }
 
 /// A link after it was served, and how it ended.
-pub(crate) struct ServedLink<R, S> {
-    pub(crate) rx: R,
-    pub(crate) tx: S,
-    pub(crate) end: LinkEnd,
+pub struct ServedLink<R, S> {
+    pub rx: R,
+    pub tx: S,
+    pub end: LinkEnd,
 }
 
 /// Serves a link: greets the painter, and if that succeeds says what it says and sends what it
 /// is to get, to the end of both.
-pub(crate) fn serve_link<
+pub fn serve_link<
     W: Threads + Wait + Sync,
     C: SessionCore<Store: Send> + Send,
     R: Source + Send,

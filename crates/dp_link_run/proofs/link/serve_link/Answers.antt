@@ -2,9 +2,9 @@ use Rattle.std.proofs.Common.{◌≡◌, ◌∙◌, ap, subst, Err}
 use Rattle.dp_link.specs.Hello.{Greets, FaultMatchesHello}
 use Rattle.dp_link.specs.declared.ends.Greeting.{Greeting}
 use Rattle.dp_link.specs.Acts.{last_outcome}
-use Rattle.dp_serve.specs.Links.{link_seen}
-use Rattle.dp_serve.proofs.LinkLemmas.{served-link, refused-link}
-use Rattle.dp_serve.proofs.link.serve_link.Goals as goal
+use Rattle.dp_link_run.specs.Links.{link_seen}
+use Rattle.dp_link_run.proofs.LinkLemmas.{served-link, refused-link}
+use Rattle.dp_link_run.proofs.link.serve_link.Goals as goal
 
 pub talk-requires-clause-opened : goal.talk-requires-clause-opened
 talk-requires-clause-opened g c κs within =

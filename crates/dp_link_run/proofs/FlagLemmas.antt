@@ -17,9 +17,9 @@ use Rattle.dp_link.specs.Acts.{last_outcome}
 use Rattle.dp_session_laws.specs.Logs.{ReplyOrMemory, LogEntry}
 use Rattle.dp_link.specs.Hello.{GreetsBy}
 use Rattle.dp_link.specs.Saying.{AreSays, AreSaid, AreSaidTo, SaidBy, MayGoOn}
-use Rattle.dp_serve.specs.Links.{is_failed, is_store_fault, has_failed, has_store_fault}
-use Rattle.dp_serve.specs.Links.{is_up_memory}
-use Rattle.dp_serve.specs.Talking.{is_store_end, is_last_failed, is_last_store_fault}
+use Rattle.dp_link_run.specs.Links.{is_failed, is_store_fault, has_failed, has_store_fault}
+use Rattle.dp_link_run.specs.Links.{is_up_memory}
+use Rattle.dp_link_run.specs.Talking.{is_store_end, is_last_failed, is_last_store_fault}
 
 -- neither memory nor the store failed
 record Fine (acts : List LogEntry) : Type 0 where

@@ -16,9 +16,9 @@ use Rattle.dp_session_laws.specs.Logs.{ReplyOrMemory, LogEntry}
 use Rattle.dp_link.specs.declared.up.UpRun.{UpRun}
 use Rattle.dp_link.specs.Saying.{AreSays, SaysAll, FaultMatchesUp}
 use Rattle.dp_link.specs.Sending.{Sends, FaultMatchesDown, session_of}
-use Rattle.dp_serve.specs.declared.link.LinkEnd.{LinkEnd}
-use Rattle.dp_serve.specs.Links.{LinkState, LinkBy, ran_out}
-use Rattle.dp_serve.specs.Links.{is_failed, is_store_fault, has_store_fault}
+use Rattle.dp_link_run.specs.declared.link.LinkEnd.{LinkEnd}
+use Rattle.dp_link_run.specs.Links.{LinkState, LinkBy, ran_out}
+use Rattle.dp_link_run.specs.Links.{is_failed, is_store_fault, has_store_fault}
 use Rattle.dp_crew.specs.Runs.{WorksOn}
 
 -- a link was served: its acts, and how it ended

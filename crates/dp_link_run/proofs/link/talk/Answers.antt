@@ -6,9 +6,9 @@ use Rattle.dp_epochs.specs.Past.{Past}
 use Rattle.dp_link.specs.Acts.{ActsOnce}
 use Rattle.dp_session_laws.specs.Logs.{ReplyOrMemory}
 use Rattle.dp_link.proofs.SendLemmas.{seen-legal, opened-later}
-use Rattle.dp_serve.specs.Links.{link_seen}
-use Rattle.dp_serve.proofs.LinkLemmas.{FeedLaws, talks-left, talks-pumped}
-use Rattle.dp_serve.proofs.link.talk.Goals as goal
+use Rattle.dp_link_run.specs.Links.{link_seen}
+use Rattle.dp_link_run.proofs.LinkLemmas.{FeedLaws, talks-left, talks-pumped}
+use Rattle.dp_link_run.proofs.link.talk.Goals as goal
 
 pub returns-in_default-clause-talks : goal.returns-in_default-clause-talks
 returns-in_default-clause-talks g c =

@@ -1,8 +1,8 @@
 use denote.Param.{param}
 use denote.Param.Send.{sendable}
 use Rattle.std.proofs.Crossing.{crosses}
-use Rattle.dp_serve.proofs.Sending.{session_hall_sync, session_seat_send}
-use Rattle.dp_serve.proofs.pumps.run_both.Goals as goal
+use Rattle.dp_link_run.proofs.Sending.{session_hall_sync, session_seat_send}
+use Rattle.dp_link_run.proofs.pumps.run_both.Goals as goal
 
 pub join_mut-requires-send-F : goal.join_mut-requires-send-F
 join_mut-requires-send-F g c κs within =

@@ -10,8 +10,8 @@ ghost use Rattle.dp_io.specs.Limits.{stream_limit};
 ghost use Rattle.dp_link.specs.Saying.{SaysAll, FaultMatchesUp};
 ghost use Rattle.dp_link.specs.Sending.{Sends, FaultMatchesDown, session_of};
 ghost use Rattle.dp_link.specs.declared.ends.UpEnd.TheVariants.{End};
-ghost use Rattle.dp_serve.specs.Links.{link_seen};
-ghost use Rattle.dp_serve.specs.Talking.{Pumps};
+ghost use Rattle.dp_link_run.specs.Links.{link_seen};
+ghost use Rattle.dp_link_run.specs.Talking.{Pumps};
 
 use dp_any_session::{AnySession, SessionCore};
 use dp_hall::Seat;
