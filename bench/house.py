@@ -283,7 +283,7 @@ def count_lines():
     """How many lines there are of each kind, without blank ones, comments and imports."""
     counts = defaultdict(int)
     for path in files("crates/*/src/**/*.rt"):
-        is_test = crate_of(path).endswith("_tests") or crate_of(path) in ("dp_rows", "dp_row_texts", "dp_row_trials", "dp_row_wires", "dp_row_runs", "dp_app_runs")
+        is_test = crate_of(path).endswith("_tests") or crate_of(path) in ("dp_rows", "dp_row_texts", "dp_row_trials", "dp_row_wires", "dp_row_runs")
         for kind in kinds_of(text_of(path)):
             counts["tests" if is_test else kind] += 1
     for part in ("specs", "proofs"):

@@ -33,7 +33,7 @@ ghost use Rattle.dp_local.specs.Runs.{run_of};
 ghost use Rattle.dp_commands.specs.Servers.{HasServed, HasBadRow};
 
 use crate::running::run_words;
-use dp_commands::{Ran, Resources};
+use dp_commands::{Ran, Resources, let_go};
 use dp_endings::say;
 use dp_epochs::{Journal, Shut};
 use dp_io::{Sink, Source};
@@ -87,8 +87,7 @@ impl<W: Drop, K> Outcome<W, K> {
             reports,
         } = self;
         drop(wires);
-        drop(journal);
-        drop(shut);
+        let_go(journal, shut);
         drop(reports);
         (status, keeper)
     }

@@ -10,7 +10,7 @@ use Rattle.dp_epochs.specs.Past.{Past}
 use Rattle.dp_keeper.specs.declared.row.Row.{Row}
 use Rattle.dp_session.specs.Resuming.{resumed}
 use Rattle.dp_endings.specs.declared.ending.Ending.{Ending}
-use Rattle.dp_commands.specs.Effects.{Effects, Kept, Stores, Streams, StoreStays, Wires, effects}
+use Rattle.dp_commands.specs.Effects.{Kept, Stores, Streams, StoreStays, Wires, effects}
 use Rattle.dp_commands.specs.Effects.{stores}
 use Rattle.dp_commands.specs.Joins.{EndsJoin}
 

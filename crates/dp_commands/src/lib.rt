@@ -7,5 +7,5 @@ mod ran;
 mod server;
 
 pub use joining::run_link;
-pub use ran::{Ran, Resources};
+pub use ran::{Ran, Resources, let_go};
 pub use server::run_server;

@@ -27,7 +27,7 @@ pub fn run_local<
     W: ScheduleWorld,
     S: SureSession,
     B: BatchBoard,
-    P: SettlingPixels + Send,
+    P: SettlingPixels + Send + Sync,
     R: Threads + Sync,
     I: Source,
     O: Sink,

@@ -4,6 +4,7 @@ ghost use Rattle.std.specs.Prelude.{◌≡◌, ◌<◌};
 ghost use Rattle.std.specs.Thread.{IsSync};
 
 use dp_app::{Outcome, drawpile};
+use dp_commands::let_go;
 use dp_row_runs::{RowLeft, RowRun, RowStreams, RunsRow, run};
 use dp_row_wires::{Told, put_told};
 use dp_serve::Reports;
@@ -105,8 +106,7 @@ fn counted<R: Threads + Wait + Sync, D: Ledger + Send, T: Ledger + Send>(
         &mut Steps::<D>::new(draws),
         &mut Steps::<T>::new(tiles),
     );
-    drop(journal);
-    drop(shut);
+    let_go(journal, shut);
     RowLeft {
         status,
         wires,
