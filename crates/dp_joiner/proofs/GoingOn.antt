@@ -15,11 +15,11 @@ use Rattle.dp_schedule.specs.declared.join_action.JoinAction.TheVariants.{Say, T
 use Rattle.dp_schedule.specs.declared.join_action.JoinAction.TheVariants.{Confirmed, Snapshot}
 use Rattle.dp_schedule.specs.declared.join_action.JoinAction.TheVariants.{Reset, Chat}
 use Rattle.dp_joiner.specs.Joining.{Joining, Progress, Waits, acted, after_line, along, asked_by}
-use Rattle.dp_joiner.specs.Joining.{came_to, caller, greeted, joined, newcomer, printed, takeable}
-use Rattle.dp_joiner.specs.Joining.{took_entry}
+use Rattle.dp_joiner.specs.Joining.{came_to, caller, greeted, joined, newcomer, printed, took_entry}
+use Rattle.dp_join_link.specs.Given.{takeable}
 use Rattle.dp_joiner.proofs.Along.{along_enough, along_few}
 use Rattle.dp_joiner.proofs.Greeted.{greets}
-use Rattle.dp_joiner.proofs.Prefixes.{IsFirstOf}
+use Rattle.dp_join_link.proofs.Prefixes.{IsFirstOf}
 use Rattle.dp_joiner.proofs.Unique.{longer}
 
 -- ---- first parts

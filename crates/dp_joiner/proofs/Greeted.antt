@@ -7,7 +7,7 @@ use Rattle.dp_messages.specs.declared.message.Msg.{Msg}
 use Rattle.dp_messages.specs.declared.message.Msg.TheVariants as msg
 use Rattle.dp_messages.specs.Properties.{is_disconnect}
 use Rattle.dp_joiner.specs.Joining.{greeted, newcomer}
-use Rattle.dp_joiner.specs.JoinStanding.{is_ping}
+use Rattle.dp_join_link.specs.JoinStanding.{is_ping}
 
 -- it makes a newcomer, and is no Disconnect and no Ping
 pub record Greets (m : Msg) : Type 0 where

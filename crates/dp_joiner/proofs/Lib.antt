@@ -1,12 +1,9 @@
 pub mod Along
 pub mod Greeted
-pub mod Reading
 pub mod Moving
 pub mod Resets
 pub mod Taking
-pub mod Acting
 pub mod Welcoming
-pub mod Prefixes
 pub mod Unique
 pub mod GoingOn
 pub mod LinkEnds

@@ -4,12 +4,13 @@ use Rattle.dp_lines.specs.declared.run_end.RunEnd.{RunEnd}
 use Rattle.dp_lines.specs.declared.run_end.RunEnd.TheVariants as run
 use Rattle.dp_messages.specs.declared.message.Entry.{Entry}
 use Rattle.dp_schedule.specs.declared.join_action.JoinAction.{JoinAction}
-use Rattle.dp_joiner.specs.declared.stops.LinkCause.{LinkCause}
-use Rattle.dp_joiner.specs.declared.stops.LinkCause.TheVariants as cause
-use Rattle.dp_joiner.specs.Joining.{Joining, Goes, Waits, is_closed, joined}
-use Rattle.dp_joiner.specs.Links.{BeginsWith, EndsLink, LinkComesTo}
-use Rattle.dp_joiner.proofs.Along.{closed-longer}
-use Rattle.dp_joiner.proofs.Prefixes.{Laws, begin_alike, within_all}
+use Rattle.dp_join_link.specs.declared.stops.LinkCause.{LinkCause}
+use Rattle.dp_join_link.specs.declared.stops.LinkCause.TheVariants as cause
+use Rattle.dp_joiner.specs.Joining.{Joining, Goes, Waits, joined}
+use Rattle.dp_join_link.specs.Given.{is_closed}
+use Rattle.dp_join_link.specs.Links.{BeginsWith, EndsLink, LinkComesTo}
+use Rattle.dp_join_link.proofs.Given.{closed-longer}
+use Rattle.dp_join_link.proofs.Prefixes.{Laws, begin_alike, within_all}
 use Rattle.dp_joiner.proofs.Unique.{joined_closed, joined_goes}
 
 -- what the layers below say of a link

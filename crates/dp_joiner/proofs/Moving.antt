@@ -22,16 +22,17 @@ use Rattle.dp_screen.proofs.Leads.{counts_both}
 use Rattle.dp_io.specs.Faults.{Rose}
 use Rattle.dp_io.specs.Streams.{GrowsByPrefix}
 use Rattle.dp_io.proofs.Prefixes.{grows_after, grows_whole}
-use Rattle.dp_joiner.specs.declared.stops.JoinStop.{JoinStop}
-use Rattle.dp_joiner.specs.declared.stops.JoinStop.TheVariants.{WriteFault, LinkFault, Memory}
-use Rattle.dp_joiner.specs.declared.stops.JoinStop.TheVariants.{NoEntry}
+use Rattle.dp_join_link.specs.declared.stops.JoinStop.{JoinStop}
+use Rattle.dp_join_link.specs.declared.stops.JoinStop.TheVariants.{WriteFault, LinkFault, Memory}
+use Rattle.dp_join_link.specs.declared.stops.JoinStop.TheVariants.{NoEntry}
 use Rattle.dp_joiner.specs.declared.chats.ChatLine.{ChatLine}
-use Rattle.dp_joiner.specs.Joining.{Joining, ack_bytes, chat_by, chat_limit, printed, reset_by}
-use Rattle.dp_joiner.specs.Joining.{said_by, sent_by, sent_text, took_entry}
+use Rattle.dp_joiner.specs.Joining.{Joining, chat_by, chat_limit, printed, reset_by, said_by}
+use Rattle.dp_joiner.specs.Joining.{sent_text, took_entry}
+use Rattle.dp_join_link.specs.Sent.{ack_bytes, sent_by, FaultMatchesWriting}
 use Rattle.dp_showing.specs.Resets.{client_reset}
 use Rattle.dp_joiner.specs.Steps.{Began, Changes, DrewFew, Fails, FaultMatchesPrinting}
-use Rattle.dp_joiner.specs.Steps.{FaultMatchesReading, FaultMatchesStop, FaultMatchesWriting}
-use Rattle.dp_joiner.specs.Steps.{IsFaultless, IsNoEntry, Seen, Stands, Stops, Wrote}
+use Rattle.dp_joiner.specs.Steps.{FaultMatchesStop, IsFaultless, Seen, Stands, Stops, Wrote}
+use Rattle.dp_join_link.specs.Reading.{FaultMatchesReading, IsNoEntry}
 
 -- ---- counts of faults
 

@@ -13,7 +13,7 @@ use Rattle.dp_messages.specs.declared.message.Msg.TheVariants as msg
 use Rattle.dp_snap.specs.Resets.{reset_begin, reset_messages}
 use Rattle.dp_snap.specs.Snapshot.{snapshot}
 use Rattle.dp_showing.specs.Resets.{client_reset}
-use Rattle.dp_joiner.specs.Joining.{sent_by}
+use Rattle.dp_join_link.specs.Sent.{sent_by}
 
 -- the messages of the client's reset
 pub resets_are : (keeps : Bool) (client : State) (begin : Msg) (commands : List Draw) (count : ℕ)

@@ -10,17 +10,19 @@ use Rattle.dp_io.proofs.Prefixes.{grows_whole}
 use Rattle.dp_messages.specs.declared.message.Entry.{Entry}
 use Rattle.dp_messages.specs.Properties.{is_disconnect}
 use Rattle.dp_schedule.specs.declared.join_action.JoinAction.TheVariants.{Take}
-use Rattle.dp_joiner.specs.declared.stops.JoinStop.{JoinStop}
-use Rattle.dp_joiner.specs.declared.stops.JoinStop.TheVariants.{NoEntry}
-use Rattle.dp_joiner.specs.Joining.{Joining, takeable, took_entry}
-use Rattle.dp_joiner.specs.JoinStanding.{is_ping}
-use Rattle.dp_joiner.specs.Links.{BeginsWith}
-use Rattle.dp_joiner.specs.Steps.{Fails, FaultMatchesReading, GivesEntry, GivesNone, Halts}
-use Rattle.dp_joiner.specs.Steps.{IsNoEntry, IsReady, Linked, Moves, Passes, ReadsOn, Seen, Shows}
-use Rattle.dp_joiner.specs.Steps.{Source, Stands, Stops, Wrote, seen}
-use Rattle.dp_joiner.proofs.Along.{takeable-append}
+use Rattle.dp_join_link.specs.declared.stops.JoinStop.{JoinStop}
+use Rattle.dp_join_link.specs.declared.stops.JoinStop.TheVariants.{NoEntry}
+use Rattle.dp_joiner.specs.Joining.{Joining, took_entry}
+use Rattle.dp_join_link.specs.Given.{takeable}
+use Rattle.dp_join_link.specs.JoinStanding.{is_ping}
+use Rattle.dp_join_link.specs.Links.{BeginsWith}
+use Rattle.dp_joiner.specs.Steps.{Fails, Halts, IsReady, Linked, Moves, Passes, Seen, Stands, Stops}
+use Rattle.dp_joiner.specs.Steps.{Wrote, seen}
+use Rattle.dp_join_link.specs.Reading.{FaultMatchesReading, GivesEntry, GivesNone, IsNoEntry}
+use Rattle.dp_join_link.specs.Reading.{ReadsOn, Shows, Source}
+use Rattle.dp_join_link.proofs.Given.{takeable-append}
 use Rattle.dp_joiner.proofs.Moving.{fault_matches_from, reading_fault}
-use Rattle.dp_joiner.proofs.Reading.{reads_none, reads_then, reads_twice, stops_here}
+use Rattle.dp_join_link.proofs.Reading.{reads_none, reads_then, reads_twice, stops_here}
 
 -- no entry is taken yet
 pub taking_none : (s : Seen) → IsReady s.client s.source → Passes s s (Take 0)

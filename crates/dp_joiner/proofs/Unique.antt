@@ -8,11 +8,12 @@ use Rattle.dp_messages.specs.declared.message.Entry.{Entry}
 use Rattle.dp_messages.specs.Properties.{is_disconnect}
 use Rattle.dp_schedule.specs.declared.join_action.JoinAction.{JoinAction}
 use Rattle.dp_joiner.specs.Joining.{Joining, Goes, Waits, after_line, along, asked_by, caller}
-use Rattle.dp_joiner.specs.Joining.{greeted, is_closed, joined, takeable}
-use Rattle.dp_joiner.specs.JoinStanding.{is_ping}
+use Rattle.dp_joiner.specs.Joining.{greeted, joined}
+use Rattle.dp_join_link.specs.Given.{is_closed, takeable}
+use Rattle.dp_join_link.specs.JoinStanding.{is_ping}
 use Rattle.dp_joiner.proofs.Along.{along_enough, along_few, along_more}
 use Rattle.dp_joiner.proofs.Greeted.{none_greeted}
-use Rattle.dp_joiner.proofs.Prefixes.{IsFirstOf}
+use Rattle.dp_join_link.proofs.Prefixes.{IsFirstOf}
 
 -- ---- more entries
 

@@ -11,18 +11,19 @@ use Rattle.dp_frame.specs.Frames.{FrameParts}
 use Rattle.dp_io.specs.Streams.{GrowsByPrefix}
 use Rattle.dp_messages.specs.declared.message.Entry.{Entry}
 use Rattle.dp_messages.specs.Properties.{is_disconnect}
-use Rattle.dp_joiner.specs.declared.stops.LinkCause.TheVariants as cause
-use Rattle.dp_joiner.specs.declared.stops.JoinStop.{JoinStop}
-use Rattle.dp_joiner.specs.declared.stops.JoinStop.TheVariants.{WriteFault, LinkFault, Memory}
-use Rattle.dp_joiner.specs.declared.stops.JoinStop.TheVariants.{NoEntry}
+use Rattle.dp_join_link.specs.declared.stops.LinkCause.TheVariants as cause
+use Rattle.dp_join_link.specs.declared.stops.JoinStop.{JoinStop}
+use Rattle.dp_join_link.specs.declared.stops.JoinStop.TheVariants.{WriteFault, LinkFault, Memory}
+use Rattle.dp_join_link.specs.declared.stops.JoinStop.TheVariants.{NoEntry}
 use Rattle.dp_joiner.specs.Greetings.{GreetingFails, NoWelcome, Welcomes}
-use Rattle.dp_joiner.specs.Joining.{Joining, Waits, along, caller, greeted, hello_bytes, newcomer}
-use Rattle.dp_joiner.specs.Joining.{takeable}
-use Rattle.dp_joiner.specs.JoinStanding.{StandsOnLink, is_welcome}
-use Rattle.dp_joiner.specs.Links.{BeginsWith}
-use Rattle.dp_joiner.specs.Steps.{FaultMatchesWriting, HasGiven, ReadsOn, Shows, Source}
-use Rattle.dp_joiner.proofs.Along.{either_false}
-use Rattle.dp_joiner.proofs.Reading.{given_begins}
+use Rattle.dp_joiner.specs.Joining.{Joining, Waits, along, caller, greeted, newcomer}
+use Rattle.dp_join_link.specs.Sent.{hello_bytes, FaultMatchesWriting}
+use Rattle.dp_join_link.specs.Given.{takeable}
+use Rattle.dp_join_link.specs.JoinStanding.{StandsOnLink, is_welcome}
+use Rattle.dp_join_link.specs.Links.{BeginsWith}
+use Rattle.dp_join_link.specs.Reading.{HasGiven, ReadsOn, Shows, Source}
+use Rattle.dp_join_link.proofs.Given.{either_false}
+use Rattle.dp_join_link.proofs.Reading.{given_begins}
 
 -- what was read of a link that is known
 known_given : (left : Option (List ℕ)) (old now : Source) (es : List Entry)

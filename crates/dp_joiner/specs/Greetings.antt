@@ -6,12 +6,13 @@ use Rattle.dp_io.specs.Faults.{Rose}
 use Rattle.dp_io.specs.Streams.{GrowsByPrefix}
 use Rattle.dp_messages.specs.declared.message.Entry.{Entry}
 use Rattle.dp_schedule.specs.declared.join_action.JoinAction.{JoinAction}
-use Rattle.dp_joiner.specs.declared.stops.JoinStop.{JoinStop}
-use Rattle.dp_joiner.specs.declared.stops.JoinStop.TheVariants.{WriteFault, LinkFault, Memory}
-use Rattle.dp_joiner.specs.declared.stops.JoinStop.TheVariants.{NoEntry}
-use Rattle.dp_joiner.specs.Joining.{Waits, caller, greeted, hello_bytes, is_closed, joined}
-use Rattle.dp_joiner.specs.Joining.{newcomer}
-use Rattle.dp_joiner.specs.Steps.{FaultMatchesReading, HasGiven, IsReadable, Shows, Source}
+use Rattle.dp_join_link.specs.declared.stops.JoinStop.{JoinStop}
+use Rattle.dp_join_link.specs.declared.stops.JoinStop.TheVariants.{WriteFault, LinkFault, Memory}
+use Rattle.dp_join_link.specs.declared.stops.JoinStop.TheVariants.{NoEntry}
+use Rattle.dp_joiner.specs.Joining.{Waits, caller, greeted, joined, newcomer}
+use Rattle.dp_join_link.specs.Sent.{hello_bytes}
+use Rattle.dp_join_link.specs.Given.{is_closed}
+use Rattle.dp_join_link.specs.Reading.{FaultMatchesReading, HasGiven, IsReadable, Shows, Source}
 
 -- the link's first entry welcomes this client
 pub record Welcomes (left : Option (List ℕ)) (faults : ℕ) (now : Source) (client : State) : Type 0

@@ -2,7 +2,7 @@
 -- entries that the link gives.
 use Rattle.std.specs.Prelude.{ℕ, Bool, if◌then◌else◌, nat_le, Option, None, Some, List, [], ◌∷◌}
 use Rattle.std.specs.Prelude.{◌++◌, length, take, drop, codes, decimal}
-use Rattle.std.specs.List.{flat_map, fold, list_any}
+use Rattle.std.specs.List.{flat_map, fold}
 use Rattle.std.specs.Option.{option_map_or}
 use Rattle.circular_buffer.specs.Buffer.{keep_last}
 use Rattle.dp_lines.specs.Hexadecimal.{hex_text}
@@ -12,8 +12,6 @@ use Rattle.dp_msg_draw.specs.declared.draw.Draw.{Draw}
 use Rattle.dp_messages.specs.declared.message.Entry.{Entry}
 use Rattle.dp_messages.specs.declared.message.Msg.{Msg}
 use Rattle.dp_messages.specs.declared.message.Msg.TheVariants as msg
-use Rattle.dp_messages.specs.Messages.{entry_bytes}
-use Rattle.dp_messages.specs.Properties.{is_disconnect}
 use Rattle.dp_schedule.specs.declared.join_action.JoinAction.{JoinAction}
 use Rattle.dp_schedule.specs.declared.join_action.JoinAction.TheVariants.{Say, Take, View}
 use Rattle.dp_schedule.specs.declared.join_action.JoinAction.TheVariants.{Confirmed, Snapshot}
@@ -25,39 +23,9 @@ use Rattle.dp_client.specs.Due.{canvas_due, said_due}
 use Rattle.dp_showing.specs.declared.showing.Shown.TheVariants as shown
 use Rattle.dp_showing.specs.Resets.{client_reset}
 use Rattle.dp_showing.specs.Showing.{shown_text}
+use Rattle.dp_join_link.specs.Given.{takeable}
+use Rattle.dp_join_link.specs.Sent.{ack_bytes, hello_bytes, sent_by}
 use Rattle.dp_joiner.specs.declared.chats.ChatLine.{ChatLine}
-use Rattle.dp_joiner.specs.JoinStanding.{is_ping}
-
--- ---- what the link gives
-
--- one of the entries is a Disconnect
-abbrev pub is_closed : List Entry → Bool
-is_closed entries = list_any (λ e. is_disconnect e.msg) entries
-
--- those that a client takes: the entries before a Disconnect that are no Pings
-abbrev pub takeable : List Entry → List Entry
-takeable [] = []
-takeable (e ∷ more) =
-    if is_disconnect e.msg
-    then []
-    else (if is_ping e.msg then takeable more else e ∷ takeable more)
-
--- ---- what is written to the link
-
--- the bytes of a message of the user
-abbrev pub sent_by : ℕ → Msg → List ℕ
-sent_by user m = entry_bytes (record { user = user; msg = m })
-
-abbrev pub hello_bytes : List ℕ → List ℕ
-hello_bytes name = sent_by 0 (msg.Control (control.Hello name))
-
--- the Ack of an epoch, if one is due
-abbrev pub ack_bytes : ℕ → Option ℕ → List ℕ
-ack_bytes user None = []
-ack_bytes user (Some epoch) = sent_by user (msg.Control (control.Ack epoch))
-
-abbrev pub farewell_bytes : ℕ → List ℕ
-farewell_bytes user = sent_by user (msg.Control (control.Disconnect 0))
 
 -- ---- what is printed
 

@@ -5,7 +5,7 @@ use Rattle.dp_io.specs.Faults.{Rose}
 use Rattle.dp_io.specs.Streams.{GrowsByPrefix}
 use Rattle.dp_lines.specs.declared.run_end.RunEnd.{RunEnd}
 use Rattle.dp_lines.specs.declared.run_end.RunEnd.TheVariants as run
-use Rattle.dp_joiner.specs.Joining.{farewell_bytes}
+use Rattle.dp_join_link.specs.Sent.{farewell_bytes}
 
 -- the Disconnect was written, or a prefix of it, if the link failed or memory ran out
 abbrev pub SaysFarewell : Option (List ℕ) → Option (List ℕ) → ℕ → ℕ → ℕ → RunEnd → Type 0

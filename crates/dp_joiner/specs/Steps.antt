@@ -1,13 +1,11 @@
 -- How a client over a link goes on.
-use Rattle.std.specs.Prelude.{◌≡◌, ◌⊎◌, ℕ, ◌+◌, ◌<◌, ◌≤◌, false, List, [], ◌∷◌, ◌++◌, length}
-use Rattle.std.specs.Prelude.{Option, true, ⊤}
+use Rattle.std.specs.Prelude.{◌≡◌, ◌⊎◌, ℕ, ◌<◌, ◌≤◌, List, length, Option, ⊤}
 use Rattle.std.specs.Result.{MatchResult}
 use Rattle.std.specs.declared.result.Result.{Result}
 use Rattle.std.specs.Io.KnownBytes.{Appends}
 use Rattle.circular_buffer.specs.Buffer.{Buffer, buffer, keep_last}
 use Rattle.dp_board.specs.Counts.{CountsFew}
 use Rattle.dp_client.specs.Client.{State}
-use Rattle.dp_entries.specs.Reader.{HasRead, Reader}
 use Rattle.dp_io.specs.Faults.{Rose}
 use Rattle.dp_io.specs.Streams.{GrowsByPrefix}
 use Rattle.dp_msg_draw.specs.declared.draw.Draw.{Draw}
@@ -19,70 +17,12 @@ use Rattle.dp_schedule.specs.declared.join_action.JoinAction.TheVariants.{Say, T
 use Rattle.dp_schedule.specs.declared.join_action.JoinAction.TheVariants.{Confirmed, Snapshot}
 use Rattle.dp_schedule.specs.declared.join_action.JoinAction.TheVariants.{Reset, Chat}
 use Rattle.dp_joiner.specs.declared.chats.ChatLine.{ChatLine}
-use Rattle.dp_joiner.specs.declared.stops.JoinStop.{JoinStop}
-use Rattle.dp_joiner.specs.declared.stops.JoinStop.TheVariants.{WriteFault, LinkFault, Memory}
-use Rattle.dp_joiner.specs.declared.stops.JoinStop.TheVariants.{NoEntry}
-use Rattle.dp_joiner.specs.Joining.{Joining, after_line, asked_by, chat_limit, is_closed, takeable}
-use Rattle.dp_joiner.specs.JoinStanding.{StandsOnLink}
-use Rattle.dp_joiner.specs.Links.{BeginsWith, EndsLink}
-use Rattle.dp_io.specs.Limits.{stream_limit}
-
--- ---- the link
-
--- what clauses see of the source of a link: its bytes that are left, if they are known, its
--- count of faults, and the reader of its entries
-pub record Source : Type 0 where
-  pub left : Option (List ℕ)
-  pub faults : ℕ
-  pub reader : Reader
-
--- the link's bytes gave these entries
-abbrev pub HasGiven : Source → List ℕ → List Entry → Type 0
-HasGiven s bytes entries = HasRead StandsOnLink bytes s.left entries s.reader
-
--- a further entry can be read: of the link's bytes from the first on the limit counts
-pub record IsReadable (s : Source) : Type 0 where
-  pub within : s.reader.stream.at ≤ stream_limit
-  pub first : s.reader.first ≡ 0
-  pub limit : s.reader.limit ≡ stream_limit
-  pub going : ¬ (s.reader.ended ≡ true)
-
--- what the link gave goes on by these entries, none of which closes it
-pub record ReadsOn (old now : Source) (given : List Entry) : Type 0 where
-  pub more : (bytes : List ℕ) (before : List Entry)
-      → HasGiven old bytes before → HasGiven now bytes (before ++ given)
-  pub still : is_closed given ≡ false
-  pub further : old.reader.stream.at + length given ≤ now.reader.stream.at
-  pub kept : now.faults ≡ old.faults
-  pub readable : IsReadable now
-
--- the link's bytes begin with these entries, and after them it gives none if the client stops
--- for that
-abbrev pub Shows : List ℕ → List Entry → JoinStop → Type 0
-Shows bytes entries WriteFault = BeginsWith bytes entries
-Shows bytes entries LinkFault = BeginsWith bytes entries
-Shows bytes entries Memory = BeginsWith bytes entries
-Shows bytes entries (NoEntry why) = EndsLink bytes entries why
-
--- what the link gave goes on by these entries, and then the client stops with this
-abbrev pub ReadsUpTo : Source → List Entry → JoinStop → Type 0
-ReadsUpTo old given stop =
-    (bytes : List ℕ) (before : List Entry) → HasGiven old bytes before → is_closed before ≡ false
-    → Shows bytes (before ++ given) stop
-
--- the count of the source's faults if reading stops with this
-abbrev pub FaultMatchesReading : ℕ → ℕ → JoinStop → Type 0
-FaultMatchesReading before now WriteFault = ⊥
-FaultMatchesReading before now LinkFault = Rose before now × (before ≤ now)
-FaultMatchesReading before now Memory = now ≡ before
-FaultMatchesReading before now (NoEntry why) = now ≡ before
-
--- the count of the sink's faults if writing to the link stops with this
-abbrev pub FaultMatchesWriting : ℕ → ℕ → JoinStop → Type 0
-FaultMatchesWriting before now WriteFault = ⊥
-FaultMatchesWriting before now LinkFault = Rose before now × (before ≤ now)
-FaultMatchesWriting before now Memory = now ≡ before
-FaultMatchesWriting before now (NoEntry why) = ⊥
+use Rattle.dp_join_link.specs.declared.stops.JoinStop.{JoinStop}
+use Rattle.dp_join_link.specs.declared.stops.JoinStop.TheVariants.{WriteFault, LinkFault, Memory}
+use Rattle.dp_join_link.specs.declared.stops.JoinStop.TheVariants.{NoEntry}
+use Rattle.dp_joiner.specs.Joining.{Joining, after_line, asked_by, chat_limit}
+use Rattle.dp_join_link.specs.Given.{takeable}
+use Rattle.dp_join_link.specs.Reading.{IsNoEntry, IsReadable, ReadsOn, ReadsUpTo, Source}
 
 -- the count of the output's faults if printing stops with this
 abbrev pub FaultMatchesPrinting : ℕ → ℕ → JoinStop → Type 0
@@ -90,19 +30,6 @@ FaultMatchesPrinting before now WriteFault = Rose before now × (before ≤ now)
 FaultMatchesPrinting before now LinkFault = ⊥
 FaultMatchesPrinting before now Memory = now ≡ before
 FaultMatchesPrinting before now (NoEntry why) = ⊥
-
--- the link gives an entry that is taken, after Pings
-pub record GivesEntry (old now : Source) (entry : Entry) : Type 0 where
-  pub given : List Entry
-  pub reads : ReadsOn old now given
-  pub only : takeable given ≡ entry ∷ []
-
--- the link gives none, after Pings
-pub record GivesNone (old now : Source) (stop : JoinStop) : Type 0 where
-  pub given : List Entry
-  pub none : takeable given ≡ []
-  pub reads : ReadsUpTo old given stop
-  pub fault : FaultMatchesReading old.faults now.faults stop
 
 -- ---- the client
 
@@ -127,9 +54,6 @@ pub record Seen : Type 0 where
   pub source : Source
   pub draws : ℕ
   pub tiles : ℕ
-
-abbrev pub source_at : {R : Type 0} → (R → Option (List ℕ)) → (R → ℕ) → Reader → R → Source
-source_at left faults reader rx = record { left = left rx; faults = faults rx; reader = reader }
 
 abbrev pub seen : {O : Type 0} → (O → Option (List ℕ)) → (O → ℕ) → Linked → O → ℕ → ℕ → Seen
 seen printed print_faults joiner output draws tiles = record {
@@ -195,13 +119,6 @@ pub record Stops (start now : Seen) (j : Joining) (stop : JoinStop) : Type 0 whe
   pub wrote : Wrote start now j.text j.written stop
   pub fault : FaultMatchesStop start now stop
   pub counts : DrewFew start now j.due
-
--- the link gives no entry more
-abbrev pub IsNoEntry : JoinStop → Type 0
-IsNoEntry WriteFault = ⊥
-IsNoEntry LinkFault = ⊥
-IsNoEntry Memory = ⊥
-IsNoEntry (NoEntry why) = ⊤
 
 -- the client goes on by this change
 abbrev pub Moves : Seen → Seen → (Joining → Joining) → Type 0

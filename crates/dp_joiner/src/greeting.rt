@@ -1,27 +1,24 @@
 //! Greeting a server.
 
-ghost use Rattle.std.specs.Prelude.{◌≡◌, ◌≤◌, ℕ, false, List, [], length, Some, None};
-ghost use Rattle.std.specs.Prelude.{IfOk, IfErr, IfSome, IfNone, OnOk};
+ghost use Rattle.std.specs.Prelude.{◌≡◌, ◌≤◌, ℕ, false, List, [], length, Some, None, IfOk, IfErr};
+ghost use Rattle.std.specs.Prelude.{IfSome, IfNone, OnOk};
 ghost use Rattle.std.specs.Io.KnownBytes.{Appends};
 ghost use Rattle.circular_buffer.specs.Buffer.{buffer};
 ghost use Rattle.dp_client.specs.Client.{welcomed};
-ghost use Rattle.dp_io.specs.Streams.{GrowsByPrefix};
 ghost use Rattle.dp_joiner.specs.Greetings.{GreetingFails, NoWelcome, Welcomes};
-ghost use Rattle.dp_joiner.specs.Joining.{chat_limit, greeted, hello_bytes, newcomer};
-ghost use Rattle.dp_joiner.specs.JoinStanding.{is_welcome};
-ghost use Rattle.dp_joiner.specs.Steps.{FaultMatchesWriting, HasGiven, IsReadable, source_at};
+ghost use Rattle.dp_joiner.specs.Joining.{chat_limit, greeted, newcomer};
+ghost use Rattle.dp_join_link.specs.Sent.{hello_bytes};
+ghost use Rattle.dp_join_link.specs.JoinStanding.{is_welcome};
+ghost use Rattle.dp_join_link.specs.Reading.{HasGiven, IsReadable, source_at};
 
 use crate::chats::{CHAT_LIMIT, ChatLine};
-use crate::join_standing::JoinStanding;
-use crate::pulling::pull;
-use crate::sending::send;
-use crate::stops::{JoinStop, LinkCause};
 use circular_buffer::HeapCircularBuffer;
 use dp_client::Client;
 use dp_entries::EntryReader;
 use dp_io::{Sink, Source};
+use dp_join_link::{JoinStanding, JoinStop, LinkCause, pull, say_hello};
 use dp_messages::{Entry, Msg};
-use dp_msg_meta::{Control, NameBytes, Text};
+use dp_msg_meta::{Control, Text};
 use dp_shown::ClientBoard;
 use std::alloc::Global;
 
@@ -90,19 +87,6 @@ pub fn greet<B: ClientBoard, R: Source, S: Sink>(
             Err(stop)
         }
     }
-}
-
-/// Writes a Hello of this name to a link.
-fn say_hello<S: Sink>(alloc: Global, name: &Text, tx: &mut S) -> Result<(), JoinStop>
-    requires { length name.now ≤ 32 }
-    ensures written { OnOk result
-        (Appends (S.held tx.old) (S.held tx.new) (hello_bytes name.now)) }
-    ensures prefix { GrowsByPrefix (S.held tx.old) (S.held tx.new) (hello_bytes name.now) }
-    ensures kept { OnOk result (S.faults tx.new ≡ S.faults tx.old) }
-    ensures fault { IfErr result (FaultMatchesWriting (S.faults tx.old) (S.faults tx.new)) }
-{
-    let name = NameBytes::from_vec(Vec::from_slice(alloc, name.as_slice())?);
-    send(alloc, 0, Msg::Control(Control::Hello { name }), tx)
 }
 
 /// The client that the link's first entry welcomes.

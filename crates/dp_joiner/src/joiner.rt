@@ -4,29 +4,26 @@ ghost use Rattle.std.specs.Prelude.{◌≡◌, ◌+◌, ◌-◌, ◌^◌, ◌<�
 ghost use Rattle.circular_buffer.specs.Buffer.{keep_last};
 ghost use Rattle.dp_messages.specs.Messages.{kind_of};
 ghost use Rattle.dp_schedule.specs.declared.join_action.JoinAction.TheVariants as action;
-ghost use Rattle.dp_showing.specs.Showing.{shown_text};
-ghost use Rattle.dp_joiner.specs.Joining.{chat_limit, chats_text, printed};
-ghost use Rattle.dp_joiner.specs.Joining.{reset_by, said_by, took_entry};
+ghost use Rattle.dp_join_link.specs.Reading.{GivesEntry, GivesNone, IsReadable, source_at};
+ghost use Rattle.dp_joiner.specs.Joining.{chat_limit, chats_text, printed, reset_by, said_by};
+ghost use Rattle.dp_joiner.specs.Joining.{took_entry};
 ghost use Rattle.dp_joiner.specs.Partings.{SaysFarewell};
-ghost use Rattle.dp_joiner.specs.Steps.{Changes, Does, GivesEntry, GivesNone, IsReadable, IsReady};
-ghost use Rattle.dp_joiner.specs.Steps.{IsSendable, seen, source_at};
+ghost use Rattle.dp_joiner.specs.Steps.{Changes, Does, IsReady, seen};
 
 use crate::chats::{ChatLine, keep_chat};
 use crate::greeting::Greeting;
-use crate::join_standing::JoinStanding;
-use crate::printing::{print_chats, print_line, print_sent, print_shown};
-use crate::pulling::pull_taken;
-use crate::sending::{acknowledge, send, send_client, send_message};
-use crate::stops::JoinStop;
+use crate::printing::{print_chats, print_line, print_sent};
+use crate::reset::send_client;
 use circular_buffer::HeapCircularBuffer;
 use dp_client::Client;
 use dp_entries::EntryReader;
 use dp_io::{Sink, Source};
+use dp_join_link::{JoinStanding, JoinStop, acknowledge, pull_taken, send, send_message};
 use dp_lines::RunEnd;
 use dp_messages::{Entry, Msg};
 use dp_msg_meta::Control;
-use dp_schedule::{JoinAction, ReportLine};
-use dp_showing::{Shown, clients_show};
+use dp_schedule::ReportLine;
+use dp_showing::clients_show;
 use dp_shown::ClientBoard;
 use dp_steps::Steps;
 use std::alloc::Global;
@@ -50,7 +47,8 @@ pub struct Joiner<B: ClientBoard, R: Source, S: Sink> {
 }
 
 impl<B: ClientBoard, R: Source, S: Sink> Model for Joiner<B, R, S> {
-    ghost use Rattle.dp_joiner.specs.Steps.{Linked, source_at};
+    ghost use Rattle.dp_joiner.specs.Steps.{Linked};
+    ghost use Rattle.dp_join_link.specs.Reading.{source_at};
 
     ghost Value = { Linked };
 
@@ -89,42 +87,13 @@ impl<B: ClientBoard, R: Source, S: Sink> Joiner<B, R, S> {
         }
     }
 
-    /// Does what a line asks for. What it writes to the link is written before what it prints.
+    /// Says a message that is no control message: it goes out over the link first.
     ///
     /// # Errors
     ///
-    /// `NoEntry` if it asks for an entry more than the link gives. `LinkFault` and `WriteFault` if
-    /// the link and the output failed, and `Memory` if memory ran out. Then prefixes were printed
-    /// and written of what is due.
-    pub fn act<O: Sink, D: Ledger, T: Ledger>(
-        &mut self,
-        action: JoinAction,
-        output: &mut O,
-        draws: &mut Steps<D>,
-        tiles: &mut Steps<T>,
-    ) -> Result<(), JoinStop>
-        requires ready { IsReady self.old.client self.old.source }
-        requires sendable { IsSendable action }
-        ensures { Does (seen O.held O.faults self.old output.old draws.old tiles.old)
-            (seen O.held O.faults self.new output.new draws.new tiles.new) action result }
-    {
-        match action {
-            JoinAction::Say(msg) => {
-                let said = self.say(&msg, output, draws, tiles);
-                drop(msg);
-                said
-            }
-            JoinAction::Take { count } => self.take(count, output, draws, tiles),
-            JoinAction::View => self.show(Shown::View, output),
-            JoinAction::Confirmed => self.show(Shown::Confirmed, output),
-            JoinAction::Snapshot => self.show(Shown::Snapshot, output),
-            JoinAction::Reset { keeps } => self.reset(keeps, output),
-            JoinAction::Chat => self.print_chats(output),
-        }
-    }
-
-    /// Says a message: it goes out over the link first.
-    fn say<O: Sink, D: Ledger, T: Ledger>(
+    /// `LinkFault` and `WriteFault` if the link and the output failed, and `Memory` if memory ran
+    /// out. Then prefixes were printed and written of what is due.
+    pub fn say<O: Sink, D: Ledger, T: Ledger>(
         &mut self,
         msg: &Msg,
         output: &mut O,
@@ -147,7 +116,13 @@ impl<B: ClientBoard, R: Source, S: Sink> Joiner<B, R, S> {
     }
 
     /// Takes `count` entries of the link.
-    fn take<O: Sink, D: Ledger, T: Ledger>(
+    ///
+    /// # Errors
+    ///
+    /// `NoEntry` if the link gives fewer. `LinkFault` and `WriteFault` if the link and the output
+    /// failed, and `Memory` if memory ran out. Then prefixes were printed and written of what is
+    /// due.
+    pub fn take<O: Sink, D: Ledger, T: Ledger>(
         &mut self,
         count: u32,
         output: &mut O,
@@ -225,17 +200,13 @@ impl<B: ClientBoard, R: Source, S: Sink> Joiner<B, R, S> {
         pull_taken(self.alloc, &mut self.reader, &mut self.rx)
     }
 
-    /// Prints what is shown of the client.
-    fn show<O: Sink>(&self, shown: Shown, output: &mut O) -> Result<(), JoinStop>
-        ensures { (draws tiles : ℕ) → Changes (seen O.held O.faults self.now output.old draws tiles)
-            (seen O.held O.faults self.now output.new draws tiles)
-            (λ j. printed j (shown_text shown j.client)) result }
-    {
-        print_shown(self.alloc, &self.client, shown, output)
-    }
-
     /// Sends the confirmed canvas as a reset, one that keeps what comes after that or not.
-    fn reset<O: Sink>(&mut self, keeps: bool, output: &mut O) -> Result<(), JoinStop>
+    ///
+    /// # Errors
+    ///
+    /// `LinkFault` and `WriteFault` if the link and the output failed, and `Memory` if memory ran
+    /// out. Then prefixes were printed and written of what is due.
+    pub fn reset<O: Sink>(&mut self, keeps: bool, output: &mut O) -> Result<(), JoinStop>
         requires { length self.old.client.taken < 2 ^ 32 }
         ensures changes { (draws tiles : ℕ) → Changes
             (seen O.held O.faults self.old output.old draws tiles)
@@ -247,8 +218,13 @@ impl<B: ClientBoard, R: Source, S: Sink> Joiner<B, R, S> {
         print_sent(self.alloc, count, output)
     }
 
-    /// Prints the lines of chat that are kept.
-    fn print_chats<O: Sink>(&self, output: &mut O) -> Result<(), JoinStop>
+    /// Prints the lines of chat that are kept, the last 64 at most.
+    ///
+    /// # Errors
+    ///
+    /// `WriteFault` if the output failed, and `Memory` if memory ran out. Then a prefix was
+    /// printed.
+    pub fn print_chats<O: Sink>(&self, output: &mut O) -> Result<(), JoinStop>
         ensures { (draws tiles : ℕ) → Changes (seen O.held O.faults self.now output.old draws tiles)
             (seen O.held O.faults self.now output.new draws tiles)
             (λ j. printed j (chats_text (keep_last chat_limit j.chats))) result }
@@ -270,6 +246,13 @@ impl<B: ClientBoard, R: Source, S: Sink> Joiner<B, R, S> {
             Ok(()) => RunEnd::Done,
             Err(stop) => stop.run_end(),
         }
+    }
+
+    /// The client.
+    pub fn client(&self) -> &Client<B>
+        ensures { result.now ≡ self.now.client }
+    {
+        &self.client
     }
 
     /// The allocator of its memory.

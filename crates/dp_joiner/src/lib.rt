@@ -1,19 +1,15 @@
-//! A client over a link: it greets the server, does what a line asks for, and says that it leaves.
+//! A client over a link: it greets the server, says messages, takes entries, sends its reset,
+//! prints lines of chat, and says that it leaves.
 //!
 //! The rule: docs/protocol.md, "Joining".
 #![tactic(auto)]
 
 mod chats;
 mod greeting;
-mod join_standing;
 mod joiner;
 mod printing;
-mod pulling;
-mod sending;
-mod stops;
+mod reset;
 
 pub use chats::ChatLine;
 pub use greeting::{Greeting, greet};
-pub use join_standing::{JoinStanding, LinkFlaw};
 pub use joiner::Joiner;
-pub use stops::{JoinStop, LinkCause};

@@ -6,17 +6,12 @@ ghost use Rattle.dp_io.specs.Streams.{GrowsByPrefix};
 ghost use Rattle.dp_schedule.specs.ReportText.{text_of};
 ghost use Rattle.dp_joiner.specs.Joining.{chats_text, sent_text};
 ghost use Rattle.dp_joiner.specs.Steps.{FaultMatchesPrinting};
-ghost use Rattle.dp_showing.specs.Showing.{shown_text};
 
 use crate::chats::{ChatLine, chats_text};
-use crate::stops::JoinStop;
 use circular_buffer::HeapCircularBuffer;
-use dp_client::Client;
 use dp_io::{Failed, Sink, put_all};
-use dp_printing::show;
+use dp_join_link::JoinStop;
 use dp_schedule::ReportLine;
-use dp_showing::Shown;
-use dp_shown::{ClientBoard, PictureEnd};
 use itoa::Buffer;
 use std::alloc::{AllocError, Global};
 
@@ -31,28 +26,6 @@ fn put_output<O: Sink>(bytes: &[u8], output: &mut O) -> Result<(), JoinStop>
     match put_all(output, bytes) {
         Ok(()) => Ok(()),
         Err(Failed) => Err(JoinStop::WriteFault),
-    }
-}
-
-/// Prints what is shown of a client.
-pub(crate) fn print_shown<B: ClientBoard, O: Sink>(
-    alloc: Global,
-    client: &Client<B>,
-    shown: Shown,
-    output: &mut O,
-) -> Result<(), JoinStop>
-    ensures written { OnOk result
-        (Appends (O.held output.old) (O.held output.new) (shown_text shown client.now)) }
-    ensures prefix { GrowsByPrefix (O.held output.old) (O.held output.new)
-        (shown_text shown client.now) }
-    ensures kept { OnOk result (O.faults output.new ≡ O.faults output.old) }
-    ensures fault { IfErr result
-        (FaultMatchesPrinting (O.faults output.old) (O.faults output.new)) }
-{
-    match show(alloc, client, shown, output) {
-        Ok(()) => Ok(()),
-        Err(PictureEnd::Failed) => Err(JoinStop::WriteFault),
-        Err(PictureEnd::Memory) => Err(JoinStop::Memory),
     }
 }
 

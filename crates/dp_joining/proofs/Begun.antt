@@ -21,18 +21,19 @@ use Rattle.dp_screen.proofs.Leads.{counts_first}
 use Rattle.dp_line_machine.specs.Counters.{Counters}
 use Rattle.dp_script.specs.Leaves.{AreFirstOf}
 use Rattle.dp_line_machine.specs.Limits.{lines_limit}
-use Rattle.dp_joiner.specs.declared.stops.LinkCause.{LinkCause}
-use Rattle.dp_joiner.specs.Joining.{Joining, Progress, Goes, Waits, came_to, farewell_bytes, joined}
+use Rattle.dp_join_link.specs.declared.stops.LinkCause.{LinkCause}
+use Rattle.dp_joiner.specs.Joining.{Joining, Progress, Goes, Waits, came_to, joined}
+use Rattle.dp_join_link.specs.Sent.{farewell_bytes}
 use Rattle.dp_joining.specs.Leaves.{BeginsDue, GrowsTowards, IsParting, JoinLeaves, Traffic}
 use Rattle.dp_joining.specs.Leaves.{WhereKnown, WritesAll, WritesPart, WritesTaken, DrawsFew}
-use Rattle.dp_joiner.specs.Links.{BeginsWith}
+use Rattle.dp_join_link.specs.Links.{BeginsWith}
 use Rattle.dp_joining.specs.Outcomes.{AllAsk, EndsByLink, EndsByScript, IsJoinStep, JoinComesTo}
 use Rattle.dp_joining.specs.Outcomes.{JoinOutcome, script_outcome}
 use Rattle.dp_joining.proofs.Leaving.{Writes}
 use Rattle.dp_joiner.proofs.LinkEnds.{IsClosed, IsEnded, ends_by}
 use Rattle.dp_joining.proofs.OneOutcome.{AllLaws, asked_alike, first_within, lists_alike}
 use Rattle.dp_joining.proofs.OneOutcome.{one_outcome}
-use Rattle.dp_joiner.proofs.Prefixes.{IsFirstOf, begin_alike, within_all}
+use Rattle.dp_join_link.proofs.Prefixes.{IsFirstOf, begin_alike, within_all}
 use Rattle.dp_joiner.proofs.Unique.{joined_closed, joined_goes, joined_waits}
 use Rattle.dp_joiner.proofs.GoingOn.{GoesOn, first_self, first_then, first_twice, joined_within}
 

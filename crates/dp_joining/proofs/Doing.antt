@@ -5,14 +5,17 @@ use Rattle.dp_lines.specs.declared.line.Line.{Line}
 use Rattle.dp_schedule.specs.declared.join_action.JoinAction.{JoinAction}
 use Rattle.dp_schedule.specs.JoinGrammar.{Asks}
 use Rattle.dp_line_machine.specs.Moments.{Moment}
-use Rattle.dp_joiner.specs.declared.stops.JoinStop.{JoinStop}
-use Rattle.dp_joiner.specs.declared.stops.JoinStop.TheVariants.{Memory}
-use Rattle.dp_joiner.specs.Joining.{Joining, Waits, after_line, along, came_to, takeable}
+use Rattle.dp_join_link.specs.declared.stops.JoinStop.{JoinStop}
+use Rattle.dp_join_link.specs.declared.stops.JoinStop.TheVariants.{Memory}
+use Rattle.dp_joiner.specs.Joining.{Joining, Waits, after_line, along, came_to}
+use Rattle.dp_join_link.specs.Given.{takeable}
 use Rattle.dp_joining.specs.Outcomes.{AllAsk}
 use Rattle.dp_joining.specs.Scripts.{HasDone, HasEnded, at}
-use Rattle.dp_joiner.specs.Steps.{Began, Halts, IsReadable, Passes, Seen, Stands, Stops}
-use Rattle.dp_joiner.proofs.Along.{along_exact, along_next, along_one, along_short, takeable-append}
-use Rattle.dp_joiner.proofs.Reading.{reads_none, reads_then, reads_twice, stops_here}
+use Rattle.dp_joiner.specs.Steps.{Began, Halts, Passes, Seen, Stands, Stops}
+use Rattle.dp_join_link.specs.Reading.{IsReadable}
+use Rattle.dp_joiner.proofs.Along.{along_exact, along_next, along_one, along_short}
+use Rattle.dp_join_link.proofs.Given.{takeable-append}
+use Rattle.dp_join_link.proofs.Reading.{reads_none, reads_then, reads_twice, stops_here}
 
 -- ---- asking
 

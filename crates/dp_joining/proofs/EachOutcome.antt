@@ -16,10 +16,11 @@ use Rattle.dp_schedule.specs.declared.join_action.JoinAction.{JoinAction}
 use Rattle.dp_script.specs.Leaves.{AreFirstOf}
 use Rattle.dp_line_machine.specs.Limits.{lines_limit}
 use Rattle.dp_io.specs.Limits.{stream_limit}
-use Rattle.dp_joiner.specs.declared.stops.LinkCause.{LinkCause}
-use Rattle.dp_joiner.specs.declared.stops.LinkCause.TheVariants as cause
-use Rattle.dp_joiner.specs.Joining.{Progress, Goes, Waits, is_closed, joined}
-use Rattle.dp_joiner.specs.Links.{BeginsWith, EndsLink, LinkComesTo}
+use Rattle.dp_join_link.specs.declared.stops.LinkCause.{LinkCause}
+use Rattle.dp_join_link.specs.declared.stops.LinkCause.TheVariants as cause
+use Rattle.dp_joiner.specs.Joining.{Progress, Goes, Waits, joined}
+use Rattle.dp_join_link.specs.Given.{is_closed}
+use Rattle.dp_join_link.specs.Links.{BeginsWith, EndsLink, LinkComesTo}
 use Rattle.dp_joining.specs.Outcomes.{AllAsk, IsJoinStep, JoinComesTo, JoinOutcome, link_outcome}
 use Rattle.dp_joining.specs.Outcomes.{script_outcome}
 use Rattle.dp_joining.proofs.Doing.{asked_more}

@@ -18,34 +18,36 @@ use Rattle.dp_lines.specs.Ends as ends
 use Rattle.dp_messages.specs.declared.message.Entry.{Entry}
 use Rattle.dp_schedule.specs.declared.join_action.JoinAction.{JoinAction}
 use Rattle.dp_line_machine.specs.declared.machine.ScriptEnd.{ScriptEnd}
-use Rattle.dp_line_machine.specs.declared.machine.ScriptEnd.TheVariants.{Done, BadLine, ReadFault, Long}
-use Rattle.dp_line_machine.specs.declared.machine.ScriptEnd.TheVariants.{Memory, Ended}
+use Rattle.dp_line_machine.specs.declared.machine.ScriptEnd.TheVariants.{Done, BadLine, ReadFault}
+use Rattle.dp_line_machine.specs.declared.machine.ScriptEnd.TheVariants.{Long, Memory, Ended}
 use Rattle.dp_line_machine.specs.Counters.{Counters, counters}
 use Rattle.dp_line_machine.specs.Ends.{FaultMatchesInput}
 use Rattle.dp_script.specs.Leaves.{HoldsLines, AreFirstOf, IsNextOf, ScriptLeaves}
 use Rattle.dp_line_machine.specs.Moments.{Moment}
 use Rattle.dp_lines.specs.TakenParts.{TookWithin}
-use Rattle.dp_joiner.specs.declared.stops.JoinStop.{JoinStop}
-use Rattle.dp_joiner.specs.declared.stops.JoinStop.TheVariants as stop
-use Rattle.dp_joiner.specs.declared.stops.LinkCause.{LinkCause}
-use Rattle.dp_joiner.specs.declared.stops.LinkCause.TheVariants as cause
-use Rattle.dp_joiner.specs.Joining.{Joining, Goes, Waits, along, came_to, caller, farewell_bytes}
-use Rattle.dp_joiner.specs.Joining.{greeted, joined, newcomer, takeable}
+use Rattle.dp_join_link.specs.declared.stops.JoinStop.{JoinStop}
+use Rattle.dp_join_link.specs.declared.stops.JoinStop.TheVariants as stop
+use Rattle.dp_join_link.specs.declared.stops.LinkCause.{LinkCause}
+use Rattle.dp_join_link.specs.declared.stops.LinkCause.TheVariants as cause
+use Rattle.dp_joiner.specs.Joining.{Joining, Goes, Waits, along, came_to, caller, greeted, joined}
+use Rattle.dp_joiner.specs.Joining.{newcomer}
+use Rattle.dp_join_link.specs.Sent.{farewell_bytes}
+use Rattle.dp_join_link.specs.Given.{takeable}
 use Rattle.dp_joining.specs.Leaves.{FaultMatchesJoin, Counts, IsParting, IsWelcome, JoinLeaves}
 use Rattle.dp_joining.specs.Leaves.{OthersStay, Traffic, WritesAll, WritesPart, WritesTaken}
 use Rattle.dp_joining.specs.Leaves.{WhereKnown, DrawsFew}
-use Rattle.dp_joiner.specs.Links.{BeginsWith, link_end}
+use Rattle.dp_join_link.specs.Links.{BeginsWith, link_end}
 use Rattle.dp_joining.specs.Outcomes.{IsJoinStep, JoinComesTo, JoinOutcome, link_outcome}
 use Rattle.dp_joining.specs.Outcomes.{script_outcome}
 use Rattle.dp_line_machine.specs.Limits.{lines_limit}
 use Rattle.dp_joiner.specs.Partings.{SaysFarewell}
 use Rattle.dp_joining.specs.Partings.{IsSilent, TakesLeave}
 use Rattle.dp_joining.specs.Scripts.{GoesTo, HasDone, HasEnded, IsBegun, StopsAlong, at}
-use Rattle.dp_joiner.specs.Steps.{Began, FaultMatchesStop, HasGiven, IsFaultless, Seen, Shows}
-use Rattle.dp_joiner.specs.Steps.{Wrote}
-use Rattle.dp_joiner.specs.Stops.{end_of}
+use Rattle.dp_joiner.specs.Steps.{Began, FaultMatchesStop, IsFaultless, Seen, Wrote}
+use Rattle.dp_join_link.specs.Reading.{HasGiven, Shows}
+use Rattle.dp_join_link.specs.Stops.{end_of}
 use Rattle.dp_joiner.proofs.Moving.{grows_not}
-use Rattle.dp_joiner.proofs.Reading.{given_begins}
+use Rattle.dp_join_link.proofs.Reading.{given_begins}
 
 -- steps with a doable line after them are steps
 abbrev pub FurtherStep : Type 0

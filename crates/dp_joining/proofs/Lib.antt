@@ -1,3 +1,4 @@
+pub mod Alone
 pub mod Doing
 pub mod Leaving
 pub mod Starting

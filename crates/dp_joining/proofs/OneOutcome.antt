@@ -7,12 +7,12 @@ use Rattle.dp_lines.specs.Ends as ends
 use Rattle.dp_schedule.specs.declared.join_action.JoinAction.{JoinAction}
 use Rattle.dp_schedule.specs.JoinGrammar.{Asks}
 use Rattle.dp_script.specs.Leaves.{AreFirstOf}
-use Rattle.dp_joiner.specs.declared.stops.LinkCause.{LinkCause}
+use Rattle.dp_join_link.specs.declared.stops.LinkCause.{LinkCause}
 use Rattle.dp_joiner.specs.Joining.{Goes, Waits, joined}
 use Rattle.dp_joining.specs.Outcomes.{AllAsk, EndsByLink, EndsByScript, IsJoinStep, JoinComesTo}
 use Rattle.dp_joining.specs.Outcomes.{JoinOutcome, link_outcome, script_outcome}
 use Rattle.dp_line_machine.specs.Limits.{lines_limit}
-use Rattle.dp_joiner.proofs.Prefixes.{IsFirstOf, begin_alike, first_more, first_nil}
+use Rattle.dp_join_link.proofs.Prefixes.{IsFirstOf, begin_alike, first_more, first_nil}
 use Rattle.dp_joiner.proofs.Unique.{joined_goes, joined_waits}
 use Rattle.dp_joiner.proofs.LinkEnds.{LinkLaws, ends_by, ends_same, waits_not_goes}
 

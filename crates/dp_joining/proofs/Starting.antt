@@ -17,21 +17,23 @@ use Rattle.dp_line_machine.specs.Counters.{Counters, NothingIsDrawn}
 use Rattle.dp_script.specs.Leaves.{AreFirstOf}
 use Rattle.dp_wire.specs.Links.{HandsOut, Links, WhereKnown as WhereLinks}
 use Rattle.dp_joining.specs.Runs.{Returns}
-use Rattle.dp_joiner.specs.declared.stops.JoinStop.{JoinStop}
-use Rattle.dp_joiner.specs.declared.stops.JoinStop.TheVariants.{NoEntry}
-use Rattle.dp_joiner.specs.declared.stops.LinkCause.{LinkCause}
+use Rattle.dp_join_link.specs.declared.stops.JoinStop.{JoinStop}
+use Rattle.dp_join_link.specs.declared.stops.JoinStop.TheVariants.{NoEntry}
+use Rattle.dp_join_link.specs.declared.stops.LinkCause.{LinkCause}
 use Rattle.dp_joiner.specs.Greetings.{GreetingFails, Welcomes}
-use Rattle.dp_joiner.specs.Joining.{Progress, came_to, caller, chat_limit, hello_bytes}
+use Rattle.dp_joiner.specs.Joining.{Progress, came_to, caller, chat_limit}
+use Rattle.dp_join_link.specs.Sent.{hello_bytes}
 use Rattle.dp_joining.specs.Leaves.{IsWelcome, JoinLeaves, ReadsNoFurther, Traffic, WaitsUnread}
 use Rattle.dp_joining.specs.Leaves.{WhereKnown, WritesAll, WritesPart, DrawsFew}
-use Rattle.dp_joiner.specs.Links.{BeginsWith, link_end}
+use Rattle.dp_join_link.specs.Links.{BeginsWith, link_end}
 use Rattle.dp_joining.specs.Outcomes.{IsJoinStep, link_outcome}
 use Rattle.dp_line_machine.specs.Limits.{lines_limit}
-use Rattle.dp_joiner.specs.Steps.{Linked, Seen, Shows, Source, seen as seen_at}
-use Rattle.dp_joiner.specs.Stops.{end_of}
+use Rattle.dp_joiner.specs.Steps.{Linked, Seen, seen as seen_at}
+use Rattle.dp_join_link.specs.Reading.{Shows, Source}
+use Rattle.dp_join_link.specs.Stops.{end_of}
 use Rattle.dp_joining.proofs.Leaving.{Writes, link_leaves}
 use Rattle.dp_joiner.proofs.Moving.{drew_none, grows_not}
-use Rattle.dp_joiner.proofs.Reading.{given_begins}
+use Rattle.dp_join_link.proofs.Reading.{given_begins}
 
 -- ---- welcomed
 

@@ -19,10 +19,12 @@ use Rattle.dp_line_machine.specs.Counters.{Counters}
 use Rattle.dp_script.specs.Leaves.{HoldsLines, HoldsNoCause, AreFirstOf}
 use Rattle.dp_lines.specs.TakenParts.{TookWithin}
 use Rattle.dp_line_machine.specs.Limits.{lines_limit}
-use Rattle.dp_joiner.specs.Joining.{Joining, Progress, Goes, came_to, farewell_bytes, greeted}
-use Rattle.dp_joiner.specs.Joining.{is_closed, joined, newcomer}
-use Rattle.dp_joiner.specs.Links.{BeginsWith}
-use Rattle.dp_joiner.specs.Steps.{HasGiven, Seen, Stands}
+use Rattle.dp_joiner.specs.Joining.{Joining, Progress, Goes, came_to, greeted, joined, newcomer}
+use Rattle.dp_join_link.specs.Sent.{farewell_bytes}
+use Rattle.dp_join_link.specs.Given.{is_closed}
+use Rattle.dp_join_link.specs.Links.{BeginsWith}
+use Rattle.dp_join_link.specs.Reading.{HasGiven}
+use Rattle.dp_joiner.specs.Steps.{Seen, Stands}
 use Rattle.dp_joining.specs.Outcomes.{AllAsk, IsJoinStep, JoinComesTo, JoinOutcome}
 
 -- What a run sees of its devices before and after it. The bytes that are left of the script, and

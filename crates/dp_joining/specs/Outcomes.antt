@@ -10,9 +10,10 @@ use Rattle.dp_lines.specs.Ends as ends
 use Rattle.dp_schedule.specs.declared.join_action.JoinAction.{JoinAction}
 use Rattle.dp_schedule.specs.JoinGrammar.{Asks}
 use Rattle.dp_script.specs.Leaves.{AreFirstOf}
-use Rattle.dp_joiner.specs.declared.stops.LinkCause.{LinkCause}
-use Rattle.dp_joiner.specs.Joining.{Joining, Goes, Waits, farewell_bytes, joined}
-use Rattle.dp_joiner.specs.Links.{BeginsWith, EndsLink, link_end}
+use Rattle.dp_join_link.specs.declared.stops.LinkCause.{LinkCause}
+use Rattle.dp_joiner.specs.Joining.{Joining, Goes, Waits, joined}
+use Rattle.dp_join_link.specs.Sent.{farewell_bytes}
+use Rattle.dp_join_link.specs.Links.{BeginsWith, EndsLink, link_end}
 use Rattle.dp_line_machine.specs.Limits.{lines_limit}
 
 -- ---- the script

@@ -3,11 +3,11 @@ use Rattle.std.specs.Prelude.{◌≡◌, ℕ, List, Option}
 use Rattle.dp_lines.specs.declared.run_end.RunEnd.{RunEnd}
 use Rattle.dp_lines.specs.declared.run_end.RunEnd.TheVariants as run
 use Rattle.dp_line_machine.specs.declared.machine.ScriptEnd.{ScriptEnd}
-use Rattle.dp_line_machine.specs.declared.machine.ScriptEnd.TheVariants.{Done, BadLine, ReadFault, Long}
-use Rattle.dp_line_machine.specs.declared.machine.ScriptEnd.TheVariants.{Memory, Ended}
-use Rattle.dp_joiner.specs.declared.stops.JoinStop.{JoinStop}
+use Rattle.dp_line_machine.specs.declared.machine.ScriptEnd.TheVariants.{Done, BadLine, ReadFault}
+use Rattle.dp_line_machine.specs.declared.machine.ScriptEnd.TheVariants.{Long, Memory, Ended}
+use Rattle.dp_join_link.specs.declared.stops.JoinStop.{JoinStop}
 use Rattle.dp_joiner.specs.Partings.{SaysFarewell}
-use Rattle.dp_joiner.specs.Stops.{end_of}
+use Rattle.dp_join_link.specs.Stops.{end_of}
 
 -- nothing more is written, and the run ends as is due
 pub record IsSilent (old now : Option (List ℕ)) (before after : ℕ) (due end : RunEnd) : Type 0 where

@@ -4,9 +4,11 @@ use Rattle.dp_lines.specs.declared.line.Line.{Line}
 use Rattle.dp_messages.specs.declared.message.Entry.{Entry}
 use Rattle.dp_schedule.specs.declared.join_action.JoinAction.{JoinAction}
 use Rattle.dp_line_machine.specs.Moments.{Moment}
-use Rattle.dp_joiner.specs.declared.stops.JoinStop.{JoinStop}
-use Rattle.dp_joiner.specs.Joining.{Joining, Progress, Goes, Waits, along, came_to, takeable}
-use Rattle.dp_joiner.specs.Steps.{IsNoEntry, ReadsOn, ReadsUpTo, Seen, Stands, Stops, seen}
+use Rattle.dp_join_link.specs.declared.stops.JoinStop.{JoinStop}
+use Rattle.dp_joiner.specs.Joining.{Joining, Progress, Goes, Waits, along, came_to}
+use Rattle.dp_join_link.specs.Given.{takeable}
+use Rattle.dp_join_link.specs.Reading.{IsNoEntry, ReadsOn, ReadsUpTo}
+use Rattle.dp_joiner.specs.Steps.{Seen, Stands, Stops, seen}
 use Rattle.dp_joining.specs.declared.machine.JoinMachine.{JoinMachine}
 use Rattle.dp_joining.specs.Outcomes.{AllAsk, IsJoinStep}
 

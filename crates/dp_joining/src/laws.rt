@@ -7,7 +7,7 @@ ghost use Rattle.dp_joining.specs.Outcomes.{JoinComesTo, JoinOutcome};
 
 use dp_entries::{Standing, each_input_ends, one_reading};
 use dp_frame::one_first_frame;
-use dp_joiner::JoinStanding;
+use dp_join_link::JoinStanding;
 use dp_lines::{StepRule, further_step, one_end, whole_lines};
 use dp_schedule::one_join_action;
 

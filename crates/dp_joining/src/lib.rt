@@ -3,6 +3,7 @@
 //! The rule: docs/protocol.md, "Joining".
 #![tactic(auto)]
 
+mod acting;
 mod laws;
 mod link;
 mod machine;

@@ -4,14 +4,15 @@ ghost use Rattle.std.specs.Prelude.{◌≡◌, ℕ, ◌≤◌, List, length};
 ghost use Rattle.std.specs.declared.option.Option.{Option};
 ghost use Rattle.dp_messages.specs.declared.message.Entry.{Entry as Item};
 ghost use Rattle.dp_line_machine.specs.Counters.{counters};
-ghost use Rattle.dp_joining.specs.Leaves.{FaultMatchesJoin, IsWelcome, JoinLeaves};
-ghost use Rattle.dp_joining.specs.Leaves.{ReadsNoFurther, WaitsUnread};
+ghost use Rattle.dp_joining.specs.Leaves.{FaultMatchesJoin, IsWelcome, JoinLeaves, ReadsNoFurther};
+ghost use Rattle.dp_joining.specs.Leaves.{WaitsUnread};
 ghost use Rattle.dp_joining.specs.Partings.{TakesLeave};
 ghost use Rattle.dp_joiner.specs.Steps.{IsReady, Seen, seen};
 
 use crate::machine::JoinMachine;
 use dp_io::{Sink, Source};
-use dp_joiner::{JoinStop, Joiner, greet};
+use dp_join_link::JoinStop;
+use dp_joiner::{Joiner, greet};
 use dp_line_machine::ScriptEnd;
 use dp_lines::{RunEnd, further_step, whole_lines};
 use dp_msg_meta::Text;

@@ -1,7 +1,9 @@
 //! The lines of a script, done by a client over a link.
 
+use crate::acting::act;
 use dp_io::{Sink, Source};
-use dp_joiner::{JoinStop, Joiner};
+use dp_join_link::JoinStop;
+use dp_joiner::Joiner;
 use dp_line_machine::{LineMachine, Undone};
 use dp_lines::Line;
 use dp_schedule::{one_action, read_join_action};
@@ -45,7 +47,7 @@ impl<B: ClientBoard, R: Source, S: Sink, O: Sink, D: Ledger, T: Ledger> LineMach
     ) -> Result<(), Undone<JoinStop>> {
         one_action();
         match read_join_action(self.joiner.alloc(), line.bytes.as_slice()) {
-            Ok(Some(action)) => match self.joiner.act(action, output, draws, tiles) {
+            Ok(Some(action)) => match act(&mut self.joiner, action, output, draws, tiles) {
                 Ok(()) => Ok(()),
                 Err(stop) => Err(Undone::Ended(stop)),
             },

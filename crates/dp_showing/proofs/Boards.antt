@@ -1,5 +1,5 @@
 -- What is drawn on a board that shows another one is drawn on that.
-use Rattle.std.proofs.Common.{◌≡◌, List, [], ◌∷◌, refl, ap, sym, ◌∙◌}
+use Rattle.std.proofs.Common.{◌≡◌, List, [], ◌∷◌, refl, ap, ◌∙◌}
 use Rattle.std.specs.List.{fold}
 
 -- a board that shows another shows it after these operations, too

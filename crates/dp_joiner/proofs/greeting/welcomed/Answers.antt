@@ -1,4 +1,4 @@
-use Rattle.dp_joiner.specs.Steps.{source_at}
+use Rattle.dp_join_link.specs.Reading.{source_at}
 use Rattle.dp_joiner.proofs.Welcoming.{memory_stops, no_welcome, welcomes_where}
 use Rattle.dp_joiner.proofs.greeting.welcomed.Goals as goal
 

@@ -1,6 +1,6 @@
 use Rattle.std.proofs.Common.{◌∙◌, arith}
 use Rattle.dp_showing.specs.Showing.{hex_frame}
-use Rattle.dp_printing.proofs.Pieces.{written_more, written_part}
+use Rattle.dp_showing.proofs.Pieces.{written_more, written_part}
 use Rattle.dp_printing.proofs.recording.write_frames.Goals as goal
 
 pub loop-entry-preserved : goal.loop-entry-preserved

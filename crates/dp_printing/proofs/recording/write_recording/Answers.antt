@@ -3,7 +3,8 @@ use Rattle.std.specs.List.{flat_map}
 use Rattle.std.proofs.KnownBytes.{Appends-trans}
 use Rattle.dp_io.proofs.Prefixes.{grows_after, grows_within}
 use Rattle.dp_showing.specs.Showing.{hex_frame, recording_head, recording_text}
-use Rattle.dp_printing.proofs.Pieces.{appends_is, prefix_is, recording_is}
+use Rattle.dp_showing.proofs.Pieces.{appends_is, prefix_is}
+use Rattle.dp_printing.proofs.Pieces.{recording_is}
 use Rattle.dp_printing.proofs.recording.write_recording.Goals as goal
 
 pub returns-in_err-write_head-clause-prefix : goal.returns-in_err-write_head-clause-prefix

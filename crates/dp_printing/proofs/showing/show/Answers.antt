@@ -2,7 +2,7 @@ use Rattle.std.proofs.Common.{ap, sym, ◌∙◌}
 use Rattle.dp_plain.specs.Picture.{p3}
 use Rattle.dp_showing.specs.declared.showing.Shown.{Shown}
 use Rattle.dp_showing.specs.Showing.{recording_text, shown_text, snapshot_text}
-use Rattle.dp_printing.proofs.Pieces.{prefix_is, written_is}
+use Rattle.dp_showing.proofs.Pieces.{prefix_is, written_is}
 use Rattle.dp_printing.proofs.showing.show.Goals as goal
 
 pub returns-in-View-clause-written : goal.returns-in-View-clause-written

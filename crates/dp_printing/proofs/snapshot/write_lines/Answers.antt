@@ -3,7 +3,7 @@ use Rattle.std.specs.List.{flat_map}
 use Rattle.std.proofs.lemmas.List.{take_all}
 use Rattle.dp_io.proofs.Prefixes.{grows_whole}
 use Rattle.dp_showing.specs.Showing.{snapshot_line}
-use Rattle.dp_printing.proofs.Pieces.{appends_is, written_more, written_part}
+use Rattle.dp_showing.proofs.Pieces.{appends_is, written_more, written_part}
 use Rattle.dp_printing.proofs.snapshot.write_lines.Goals as goal
 
 pub loop-command-preserved : goal.loop-command-preserved

@@ -3,7 +3,8 @@ use Rattle.std.specs.List.{flat_map}
 use Rattle.dp_io.proofs.Prefixes.{grows_after, grows_within}
 use Rattle.dp_snap.specs.Snapshot.{snapshot}
 use Rattle.dp_showing.specs.Showing.{snapshot_head, snapshot_line, snapshot_text}
-use Rattle.dp_printing.proofs.Pieces.{prefix_is, snapshot_is, written_both, written_is}
+use Rattle.dp_showing.proofs.Pieces.{prefix_is, written_both, written_is}
+use Rattle.dp_printing.proofs.Pieces.{snapshot_is}
 use Rattle.dp_printing.proofs.snapshot.write_snapshot.Goals as goal
 
 pub returns-in_err-write_head-clause-prefix : goal.returns-in_err-write_head-clause-prefix

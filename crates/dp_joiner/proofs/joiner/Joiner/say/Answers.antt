@@ -1,7 +1,7 @@
 use Rattle.std.proofs.Common.{◌∙◌, ap, refl, length}
 use Rattle.std.proofs.lemmas.Result.{err_from_is_err_and}
 use Rattle.dp_client.specs.Client.{State}
-use Rattle.dp_joiner.specs.declared.stops.JoinStop.TheVariants.{Memory}
+use Rattle.dp_join_link.specs.declared.stops.JoinStop.TheVariants.{Memory}
 use Rattle.dp_joiner.specs.Joining.{Joining, said_by}
 use Rattle.dp_joiner.specs.Steps.{Linked}
 use Rattle.dp_joiner.proofs.Moving.{anyhow, changes_last, drew_none, fails_first, says_adds}

@@ -1,7 +1,7 @@
 use Rattle.std.proofs.Common.{refl}
 use Rattle.std.proofs.lemmas.Result.{err_from_is_err_and}
 use Rattle.dp_client.specs.Client.{taken_of}
-use Rattle.dp_joiner.specs.declared.stops.JoinStop.TheVariants.{Memory}
+use Rattle.dp_join_link.specs.declared.stops.JoinStop.TheVariants.{Memory}
 use Rattle.dp_joiner.specs.Joining.{Joining, took_entry}
 use Rattle.dp_joiner.proofs.Moving.{changes_last, fails_first, grows_not, takes_adds, takes_leads}
 use Rattle.dp_joiner.proofs.joiner.Joiner.take_entry.Goals as goal

@@ -30,7 +30,7 @@ returns-in-Ok-clause-done g c = λ start done has.
     let some = rw c.in-Ok-Some.field-0-is at c.in-Ok-Some.ensures.some in
     done_further (seen_by g.O.Sink.held g.O.Sink.faults) start
     (moment c.args.self.now c.args.output.now c.args.draws.now c.args.tiles.now)
-    (moment (record c.args.self.now { joiner = c.act.new.self }) c.act.new.output c.act.new.draws
+    (moment (record c.args.self.now { joiner = c.act.new.joiner }) c.act.new.output c.act.new.draws
     c.act.new.tiles)
     done c.args.line.now c.in-Ok-Some.action (rw (← c.as_slice.ensures) some) c.in-Ok.ensures has
 
@@ -39,7 +39,7 @@ returns-in-Err-act-clause-ended g c = λ start done has.
     let some = rw c.in-Ok-Some.field-0-is at c.in-Ok-Some.ensures.some in
     halts_at (seen_by g.O.Sink.held g.O.Sink.faults) start
     (moment c.args.self.now c.args.output.now c.args.draws.now c.args.tiles.now)
-    (moment (record c.args.self.now { joiner = c.act.new.self }) c.act.new.output c.act.new.draws
+    (moment (record c.args.self.now { joiner = c.act.new.joiner }) c.act.new.output c.act.new.draws
     c.act.new.tiles)
     done c.args.line.now c.in-Ok-Some.action c.in-Err-act.stop
     (rw (← c.as_slice.ensures) some) c.in-Err-act.ensures has
