@@ -25,12 +25,12 @@ use Rattle.dp_serve.specs.declared.report.LinkReport.{LinkReport}
 use Rattle.dp_commands.proofs.Leaving.{resumed_sound}
 use Rattle.dp_endings.specs.Answer.{status_of}
 use Rattle.dp_commands.specs.Commands.{Asks, HasWires}
-use Rattle.dp_commands.specs.Due.{GivesLink}
+use Rattle.dp_app.specs.Due.{GivesLink}
 use Rattle.dp_endings.specs.declared.ending.Ending.{Ending}
 use Rattle.dp_commands.specs.Effects.{Effects, Kept, KeepsNothing, Streams, Wires, served_wires}
 use Rattle.dp_commands.specs.Faults.{DialFailed, LinkFailed, WireFailed}
 use Rattle.dp_commands.specs.Joins.{JoinsOn, ends_of}
-use Rattle.dp_commands.specs.Runs.{IsReadWhole, IsLocalRun, IsUnfailed, run_of}
+use Rattle.dp_local.specs.Runs.{IsReadWhole, IsLocalRun, IsUnfailed, run_of}
 use Rattle.dp_commands.specs.Servers.{NotResumed, ServedOn}
 
 -- the laws on the commands that need no link

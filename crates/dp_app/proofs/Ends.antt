@@ -25,8 +25,8 @@ use Rattle.dp_commands.specs.Effects.{Effects, KeepsNothing, NothingIsDone, Unto
 use Rattle.dp_commands.specs.Effects.{StaysLocal}
 use Rattle.dp_endings.specs.Endings.{code_of}
 use Rattle.dp_commands.specs.Joins.{HasJoined}
-use Rattle.dp_commands.specs.Kinds.{NothingRuns, EndsWords, KindLeaves, Reads}
-use Rattle.dp_commands.specs.Runs.{IsReadWhole}
+use Rattle.dp_app.specs.Kinds.{NothingRuns, EndsWords, KindLeaves, Reads}
+use Rattle.dp_local.specs.Runs.{IsReadWhole}
 use Rattle.dp_commands.specs.Servers.{HasServed, RunsServer}
 use Rattle.dp_app.proofs.ByKind.{AreRuns, DistinctLaw, Leaves, Matches, has-wire, has-wires}
 use Rattle.dp_app.proofs.ByKind.{join-tells, none-reported, server-distinct}

@@ -15,14 +15,14 @@ use Rattle.dp_words.specs.declared.command_line.LocalCommand.{LocalCommand}
 use Rattle.dp_endings.specs.Answer.{Answer, IsGiven, answer_for, line_of, no_link_answer}
 use Rattle.dp_endings.specs.Answer.{status_of, usage_answer}
 use Rattle.dp_commands.specs.Commands.{Asks, HasLink, HasWires, IsCommand, LacksWires}
-use Rattle.dp_commands.specs.Due.{DueOf, GetsLink, IsDue}
+use Rattle.dp_app.specs.Due.{DueOf, GetsLink, IsDue}
 use Rattle.dp_endings.specs.declared.ending.Ending.{Ending}
 use Rattle.dp_endings.specs.declared.ending.Ending.TheVariants.{Usage, NoLink, NoWords}
 use Rattle.dp_commands.specs.Effects.{Effects, NothingIsDone, Streams, Wires}
 use Rattle.dp_endings.specs.Endings.{code_of, ending_line}
 use Rattle.dp_commands.specs.Joins.{JoinsOn}
-use Rattle.dp_commands.specs.Kinds.{NothingRuns, EndsWords, RunsLocally}
-use Rattle.dp_commands.specs.Runs.{IsUnfailed, run_of}
+use Rattle.dp_app.specs.Kinds.{NothingRuns, EndsWords, RunsLocally}
+use Rattle.dp_local.specs.Runs.{IsUnfailed, run_of}
 use Rattle.dp_app.proofs.ByKind.{AreRuns, Leaves, Matches, has-wire, has-wires, join-tells}
 use Rattle.dp_app.proofs.ByKind.{joins-given}
 use Rattle.dp_app.proofs.Ends.{OneCommand, for-known}

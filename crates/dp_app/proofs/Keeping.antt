@@ -13,7 +13,7 @@ use Rattle.dp_serve.specs.declared.report.LinkReport.{LinkReport}
 use Rattle.dp_commands.specs.Commands.{AskForLocal, HasLink, HasWires}
 use Rattle.dp_endings.specs.declared.ending.Ending.{Ending}
 use Rattle.dp_commands.specs.Effects.{Effects, KeepsNothing, Wires, served_wires}
-use Rattle.dp_commands.specs.Kinds.{EndsWords}
+use Rattle.dp_app.specs.Kinds.{EndsWords}
 use Rattle.dp_commands.specs.Servers.{NotResumed, ServedOn}
 use Rattle.dp_app.specs.Stores.{HoldsKept}
 use Rattle.dp_app.proofs.Ends.{OneCommand, of-each}

@@ -21,8 +21,8 @@ use Rattle.dp_commands.specs.Effects.{Effects, NothingIsDone, Streams, Untouched
 use Rattle.dp_endings.specs.Endings.{code_of, ending_line}
 use Rattle.dp_commands.specs.Faults.{AskAndFailed, WireFailed}
 use Rattle.dp_commands.specs.Joins.{JoinsOn}
-use Rattle.dp_commands.specs.Kinds.{NothingRuns, EndsWords, RunsLocally}
-use Rattle.dp_commands.specs.Runs.{run_of}
+use Rattle.dp_app.specs.Kinds.{NothingRuns, EndsWords, RunsLocally}
+use Rattle.dp_local.specs.Runs.{run_of}
 use Rattle.dp_commands.specs.Servers.{HasBadRow, NotResumed, ServedOn, end_of_fault}
 use Rattle.dp_commands.specs.Servers.{server_end}
 use Rattle.dp_app.proofs.ByKind.{AreRuns, Matches, StoreLaw, dial-failed, has-wire, has-wires}

@@ -8,7 +8,7 @@ ghost use Rattle.dp_io.specs.Faults.{Rose};
 ghost use Rattle.dp_serve_laws.specs.Acts.{KeepsActs};
 ghost use Rattle.dp_serve_laws.specs.Reported.{reported};
 ghost use Rattle.dp_serve.specs.declared.report.LinkReport.{LinkReport};
-ghost use Rattle.dp_serve.specs.Links.{link_seen};
+ghost use Rattle.dp_link_run.specs.Links.{link_seen};
 ghost use Rattle.dp_lines.specs.declared.run_end.RunEnd.{RunEnd};
 ghost use Rattle.dp_lines.specs.declared.run_end.RunEnd.TheVariants.{Memory};
 ghost use Rattle.dp_words.specs.declared.command_line.CommandLine.{CommandLine};
@@ -23,21 +23,23 @@ ghost use Rattle.dp_app.specs.Worlds.{HasHeadline, HasPlainForks};
 ghost use Rattle.dp_endings.specs.Answer.{Answer, IsGiven, Says, SaysNoLink, SaysUsage};
 ghost use Rattle.dp_commands.specs.Commands.{AskAndLack, AskForLocal, Asks, HasLink, HasLinks};
 ghost use Rattle.dp_commands.specs.Commands.{HasWires, IsCommand, IsWorld, LacksWires};
-ghost use Rattle.dp_commands.specs.Due.{GetsLink, IsDue};
+ghost use Rattle.dp_app.specs.Due.{GetsLink, IsDue};
 ghost use Rattle.dp_commands.specs.Effects.{KeepsNothing, effects, kept, stores, streams};
 ghost use Rattle.dp_commands.specs.Effects.{wire_seen};
 ghost use Rattle.dp_commands.specs.Faults.{AskAndFailed};
 ghost use Rattle.dp_commands.specs.Joins.{HasJoined};
-ghost use Rattle.dp_commands.specs.Kinds.{Reads};
-ghost use Rattle.dp_commands.specs.Runs.{run_of};
+ghost use Rattle.dp_app.specs.Kinds.{Reads};
+ghost use Rattle.dp_local.specs.Runs.{run_of};
 ghost use Rattle.dp_commands.specs.Servers.{HasServed, HasBadRow};
 
-use dp_commands::{Host, Ran, Resources, local_commands_are_runs, run_words};
+use crate::running::run_words;
+use dp_commands::{Ran, Resources};
 use dp_endings::say;
 use dp_epochs::{Journal, Shut};
 use dp_io::{Sink, Source};
 use dp_joining::{each_outcome, one_outcome};
 use dp_keeper::Keeper;
+use dp_local::{Host, local_commands_are_runs};
 use dp_serve::Reports;
 use dp_serve_laws::{
     acts_of_connections, reports_name_distinct_connections, rows_are_kept, store_faults_are_counted,
@@ -68,6 +70,28 @@ pub struct Outcome<W, K> {
     pub shut: Shut,
     /// A report of each link of a server.
     pub reports: Reports,
+}
+
+impl<W: Drop, K> Outcome<W, K> {
+    /// The status and the keeper. The rest is let go.
+    pub fn into_status(self) -> (u8, K)
+        ensures status { result.0 ≡ self.status }
+        ensures keeper { result.1 ≡ self.keeper }
+    {
+        let Outcome {
+            status,
+            wires,
+            keeper,
+            journal,
+            shut,
+            reports,
+        } = self;
+        drop(wires);
+        drop(journal);
+        drop(shut);
+        drop(reports);
+        (status, keeper)
+    }
 }
 
 /// The program, on its words after its name, its input and its output. On `diag` it says why it

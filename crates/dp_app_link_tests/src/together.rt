@@ -1,8 +1,8 @@
 //! A server and two painters over the loopback. Each has the wires that its words want, as `main`
 //! gives them. `main` itself can't be called here.
 
+use crate::runs::{Streams, status_of, words_of};
 use crate::wires::wires_of;
-use dp_app_runs::{Left, outcome_of, words_of};
 use dp_io::{MemSink, MemSource};
 use dp_wire::Wire;
 use std::alloc::Global;
@@ -69,14 +69,6 @@ P3
 0 0 255
 ";
 
-/// What a painter reads, and where the program prints and says things.
-#[derive(Drop)]
-struct Streams {
-    input: MemSource,
-    output: MemSink,
-    diag: MemSink,
-}
-
 /// A sink of a thousand bytes.
 fn sink_of(rt: &impl Abort, alloc: Global) -> MemSink {
     MemSink::new(alloc, 1000, 64, Vec::new(alloc)).expect(rt, "memory")
@@ -92,20 +84,6 @@ fn streams_of(rt: &impl Abort, alloc: Global, script: &str) -> Streams {
     }
 }
 
-/// The status of a run, of which the rest is let go.
-fn status_of<W: Drop, K: Drop>(left: Left<W, K>) -> u8 {
-    let Left {
-        status,
-        wires,
-        keeper,
-        reports,
-    } = left;
-    drop(wires);
-    drop(keeper);
-    drop(reports);
-    status
-}
-
 /// Runs the words of a line over these wires: its status.
 fn run<R: Threads + Wait + Sync + Abort, W: Wire + Send + Drop>(
     rt: &R,
@@ -115,11 +93,9 @@ fn run<R: Threads + Wait + Sync + Abort, W: Wire + Send + Drop>(
     streams: &mut Streams,
 ) -> u8 {
     let words = words_of(alloc, line).expect(rt, "memory");
-    let input = &mut streams.input;
-    let (output, diag) = (&mut streams.output, &mut streams.diag);
-    let left = outcome_of(rt, alloc, &words, input, output, diag, wires);
+    let status = status_of(rt, alloc, &words, wires, streams);
     drop(words);
-    status_of(left)
+    status
 }
 
 /// Runs the words of a line over these wires with this script, and looks at what is printed.

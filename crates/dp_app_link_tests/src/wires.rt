@@ -1,6 +1,6 @@
 //! What `main` hands to the program: `serve` listens with its workers, and `join` dials it.
 
-use dp_app_runs::words_of;
+use crate::runs::words_of;
 use dp_io::{Sink, Source};
 use dp_sockets::wires_for;
 use dp_wire::{TcpWire, Wire};

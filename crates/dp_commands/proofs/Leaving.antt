@@ -1,8 +1,7 @@
--- What a run leaves, as its callers see it: words by their command, wires by their slice.
+-- What a run leaves, as its callers see it: wires by their slice.
 use Rattle.std.proofs.Common.{◌≡◌, ℕ, List, All, ◌≤◌, ◌++◌, drop, length, take, sym, ap, ◌∙◌, subst}
 use Rattle.std.proofs.Common.{inl, inr}
 use Rattle.std.specs.Prelude.{Option}
-use Rattle.std.specs.declared.string.String.{String}
 use Rattle.std.proofs.lemmas.List.{take_at}
 use Rattle.std.proofs.lemmas.List.Elements.{All-nil}
 use Rattle.dp_epochs.specs.declared.event.ShutAt.{ShutAt}
@@ -10,21 +9,10 @@ use Rattle.dp_epochs.specs.Laws.{ShutBefore}
 use Rattle.dp_epochs.specs.Past.{Past}
 use Rattle.dp_keeper.specs.declared.row.Row.{Row}
 use Rattle.dp_session.specs.Resuming.{resumed}
-use Rattle.dp_words.specs.declared.command_line.CommandLine.{CommandLine}
-use Rattle.dp_words.specs.declared.command_line.CommandLine.TheVariants.{Join}
 use Rattle.dp_endings.specs.declared.ending.Ending.{Ending}
-use Rattle.dp_commands.specs.Commands.{Asks}
 use Rattle.dp_commands.specs.Effects.{Effects, Kept, Stores, Streams, StoreStays, Wires, effects}
 use Rattle.dp_commands.specs.Effects.{stores}
-use Rattle.dp_commands.specs.Kinds.{NothingRuns, EndsCommand, EndsWords}
-
--- what the command that the words ask for leaves
-module _ {A W R T : Type 0} (see : Wires W R T) (words : List (String A)) (e : Effects W) where
-  pub words-end : (command : CommandLine) (ending : Ending) → Asks words command
-      → EndsCommand see command e ending → EndsWords see words e ending
-  words-end command ending asks (inl h) =
-      inl (subst (NothingRuns words e.old) (sym h.0) (command, asks, h.1), h.2)
-  words-end command ending asks (inr h) = inr (command, asks, h)
+use Rattle.dp_commands.specs.Joins.{EndsJoin}
 
 -- nothing has been refused in a session that was resumed
 pub resumed_sound : (start : Past) (held : Option (List Row)) (puts reads : ℕ)
@@ -44,10 +32,10 @@ stays-of held puts reads keeper now same =
 abbrev pub sliced : {W : Type 0} → List W → List W → ℕ → List W
 sliced old new n = take n (new ++ drop (length new) old)
 
-module _ {W R T : Type 0} (see : Wires W R T) (addr name : List ℕ) (s : Streams) (d : Stores)
+module _ {W R T : Type 0} (see : Wires W R T) (name : List ℕ) (s : Streams) (d : Stores)
     (k : Kept) where
   abbrev pub EndsLink : List W → List W → Ending → Type 0
-  EndsLink old new ending = EndsCommand see (Join addr name) (effects s old new d k) ending
+  EndsLink old new ending = EndsJoin see name (effects s old new d k) ending
 
   as-long : (old new : List W) (ending : Ending) → EndsLink old new ending
       → length new ≡ length old

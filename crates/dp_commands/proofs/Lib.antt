@@ -1,2 +1,1 @@
 pub mod Leaving
-pub mod LocalRuns

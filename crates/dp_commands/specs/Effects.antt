@@ -8,7 +8,7 @@ use Rattle.dp_line_machine.specs.Counters.{Counters, NothingIsDrawn}
 use Rattle.dp_serve.specs.Serving.{Seen}
 use Rattle.dp_wire.specs.Links.{Links}
 use Rattle.dp_serve.specs.declared.report.LinkReport.{LinkReport}
-use Rattle.dp_serve.specs.Links.{link_seen}
+use Rattle.dp_link_run.specs.Links.{link_seen}
 
 -- What the streams were before, and are now: the bytes that are left of the input, those that the
 -- output holds, and how often each has failed. Then the counters of draws and of tiles.

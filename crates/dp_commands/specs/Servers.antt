@@ -1,5 +1,5 @@
 -- What is left if the program serves a session.
-use Rattle.std.specs.Prelude.{◌≡◌, ℕ, ◌⊎◌, Bool, true, false, List, Option, IfSome}
+use Rattle.std.specs.Prelude.{◌≡◌, ◌≢◌, ℕ, ◌⊎◌, Bool, true, false, List, length, Option, IfSome}
 use Rattle.dp_keeper.specs.declared.row.Row.{Row}
 use Rattle.dp_lines.specs.declared.run_end.RunEnd.TheVariants.{Done, LinkFault, Memory}
 use Rattle.dp_epochs.specs.Resumed.{AreRowsOf}
@@ -10,7 +10,8 @@ use Rattle.dp_session.specs.Resuming.{resumed, IsBad, CountsFault}
 use Rattle.dp_crew.specs.Runs.{most_links}
 use Rattle.dp_serve.specs.Closings.{ServesOn}
 use Rattle.dp_endings.specs.declared.ending.Ending.{Ending}
-use Rattle.dp_endings.specs.declared.ending.Ending.TheVariants.{NoWords, Run, StoreFault, BadRow}
+use Rattle.dp_endings.specs.declared.ending.Ending.TheVariants.{NoLink, NoWords, Run}
+use Rattle.dp_endings.specs.declared.ending.Ending.TheVariants.{StoreFault, BadRow}
 use Rattle.dp_endings.specs.Answer.{SaysLine}
 use Rattle.dp_commands.specs.Effects.{Effects, NothingIsDone, StaysLocal, Untouched, Wires}
 use Rattle.dp_commands.specs.Effects.{served_wires}
@@ -67,6 +68,12 @@ pub record RunsServer {W R T : Type 0} (see : Wires W R T) (conns : Option ℕ) 
     (ending : Ending) : Type 0 where
   pub untouched : Untouched e.streams
   pub served : ServedOn see conns e ending ⊎ NotResumed e ending
+
+-- what a server of so many workers with this end leaves: without a wire for each nothing is done
+abbrev pub EndsServer : {W R T : Type 0} → Wires W R T → ℕ → Option ℕ → Effects W → Ending → Type 0
+EndsServer see workers conns e ending =
+    ((ending ≡ NoLink) × (length e.old ≢ workers) × NothingIsDone e)
+    ⊎ ((length e.old ≡ workers) × RunsServer see conns e ending)
 
 -- What is left if the words ask for a server and there is a wire for each worker: the session
 -- was served, or couldn't be resumed, and the end is said; or memory ran out before the words were

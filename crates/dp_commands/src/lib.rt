@@ -1,11 +1,11 @@
-//! What a command is due and what it leaves, and running it.
+//! The commands that need wires: what they leave, and running them. The board that a client draws on
+//! is a parameter.
 #![tactic(auto)]
 
-mod host;
-mod laws;
-mod running;
+mod joining;
+mod ran;
 mod server;
 
-pub use host::{Host, Resources};
-pub use laws::local_commands_are_runs;
-pub use running::{Ran, run_words};
+pub use joining::run_link;
+pub use ran::{Ran, Resources};
+pub use server::run_server;

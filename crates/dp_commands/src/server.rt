@@ -1,14 +1,10 @@
 //! Running a server.
 
-ghost use Rattle.std.specs.Prelude.{◌≡◌, ◌≢◌, ◌≤◌, ℕ, List, length};
-ghost use Rattle.dp_words.specs.declared.command_line.CommandLine.TheVariants.{Listen};
-ghost use Rattle.dp_words.specs.declared.command_line.Service.{Service};
+ghost use Rattle.std.specs.Prelude.{◌≡◌, ◌≢◌, ◌≤◌, length};
 ghost use Rattle.dp_commands.specs.Effects.{Streams, Untouched, effects, kept, stores, wire_seen};
-ghost use Rattle.dp_commands.specs.Kinds.{EndsCommand};
-ghost use Rattle.dp_commands.specs.Servers.{end_of_fault, server_end};
+ghost use Rattle.dp_commands.specs.Servers.{EndsServer, end_of_fault, server_end};
 
-use crate::host::Resources;
-use crate::running::Ran;
+use crate::ran::{Ran, Resources};
 use dp_any_session::AnySession;
 use dp_endings::Ending;
 use dp_keeper::Keeper;
@@ -22,7 +18,7 @@ use std::thread::Threads;
 
 /// Serves the session of the store's rows with a worker for each wire, if there are as many as
 /// it takes.
-pub(crate) fn run_server<R: Threads + Wait + Sync, W: Wire + Send, K: Keeper + Send, G: Gate>(
+pub fn run_server<R: Threads + Wait + Sync, W: Wire + Send, K: Keeper + Send, G: Gate>(
     rt: &R,
     alloc: Global,
     wires: Vec<W>,
@@ -32,9 +28,8 @@ pub(crate) fn run_server<R: Threads + Wait + Sync, W: Wire + Send, K: Keeper + S
     gate: &G,
 ) -> Ran<W, K>
     requires { workers ≤ 64 }
-    ensures ends { (addr : List ℕ) (service : Service) (s : Streams) → Untouched s → EndsCommand
-        (wire_seen W.links W.faults W.Rx.left W.Rx.faults W.Tx.held W.Tx.faults)
-        (Listen addr workers conns service)
+    ensures ends { (s : Streams) → Untouched s → EndsServer
+        (wire_seen W.links W.faults W.Rx.left W.Rx.faults W.Tx.held W.Tx.faults) workers conns
         (effects s wires.items result.wires.items
         (stores K.held K.put_faults K.read_faults keeper result.keeper)
         (kept result.journal result.shut result.reports)) result.ending }

@@ -1,7 +1,7 @@
 -- The flow of a drill's schedule.
 use Rattle.std.proofs.Common.{◌≡◌, ℕ, zero, suc, ◌+◌, ◌-◌, ◌*◌, ◌%◌, ◌/◌, ◌<◌, ◌≤◌, ◌==◌}
 use Rattle.std.proofs.Common.{Bool, true, false, not, is_some, MatchBool, if◌then◌else◌, List, []}
-use Rattle.std.proofs.Common.{◌∷◌, ◌++◌, length, map, take, Option, None, Some, refl, sym, ap}
+use Rattle.std.proofs.Common.{◌∷◌, ◌++◌, length, map, Option, None, Some, refl, sym, ap}
 use Rattle.std.proofs.Common.{subst, ◌∙◌, arith, codes, lit<, lit≤, replicate}
 use Rattle.std.specs.Prelude.{nat_le, pos}
 use Rattle.std.specs.List.{AllByRecursion, flat_map, fold, list_any}

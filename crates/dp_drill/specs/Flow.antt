@@ -13,7 +13,7 @@ use Rattle.dp_schedule.specs.declared.action.Action.{Action}
 use Rattle.dp_schedule.specs.declared.action.Action.TheVariants.{Join, Act}
 use Rattle.dp_schedule.specs.declared.action.Instruction.{Instruction}
 use Rattle.dp_schedule.specs.declared.action.Instruction.TheVariants.{Say, Up}
-use Rattle.dp_sim.specs.World.{first_past}
+use Rattle.dp_sure_session.specs.FirstPast.{first_past}
 use Rattle.dp_drill.specs.Schedule.{clients, drawn_actions}
 
 -- a session's past, and the messages on their way from each client, in the order of their joins

@@ -12,10 +12,8 @@ ghost use Rattle.dp_drill.specs.Flow.{GetsHistory, first_flow, flow_after, last_
 
 use dp_epochs::{Answer, Entries, Event, Query, Reply};
 use dp_frame::Octets;
-use dp_keeper::{Rows, SureKeeper};
-use dp_machine::Machine;
 use dp_messages::Msg;
-use dp_session::Session;
+use dp_sure_session::SureSession;
 use std::alloc::{AllocError, Global};
 use std::collections::VecDeque;
 use std::marker::Model;
@@ -70,9 +68,9 @@ impl Uplink {
 }
 
 /// Has the session serve an event, which isn't kept.
-fn serve(session: &mut Session<SureKeeper>, event: Event) -> Result<Reply, AllocError>
-    requires { session.old.first_fault ≡ None }
-    ensures { OnOk result (session.new ≡ sure_step session.old event) }
+fn serve<S: SureSession>(session: &mut S, event: Event) -> Result<Reply, AllocError>
+    requires { (S.past session.old).first_fault ≡ None }
+    ensures { OnOk result (S.past session.new ≡ sure_step (S.past session.old) event) }
 {
     let reply = session.step_surely(&event);
     drop(event);
@@ -81,28 +79,27 @@ fn serve(session: &mut Session<SureKeeper>, event: Event) -> Result<Reply, Alloc
 
 /// A session, and the messages on their way from each client, in the order of their joins.
 #[derive(Drop)]
-pub(crate) struct Flow {
-    session: Session<SureKeeper>,
+pub(crate) struct Flow<S: SureSession> {
+    session: S,
     uplinks: Vec<Uplink>,
     alloc: Global,
 }
 
-impl Model for Flow {
+impl<S: SureSession> Model for Flow<S> {
     ghost use Rattle.dp_drill.specs.Flow.{Flow as Seen};
 
     ghost Value = { Seen };
 
-    ghost view = { λ f. record { past = f.session; uplinks = f.uplinks.items } };
+    ghost view = { λ f. record { past = S.past f.session; uplinks = f.uplinks.items } };
 }
 
-impl Flow {
+impl<S: SureSession> Flow<S> {
     /// A session to which nothing has come, without clients.
-    pub(crate) fn new(alloc: Global) -> Result<Flow, AllocError>
+    pub(crate) fn new(alloc: Global) -> Result<Flow<S>, AllocError>
         ensures { IfOk result (λ flow. flow ≡ first_flow) }
     {
-        let keeper = SureKeeper::new(Rows::new(alloc));
         Ok(Flow {
-            session: Session::new(alloc, keeper)?,
+            session: S::new_sure(alloc)?,
             uplinks: Vec::new(alloc),
             alloc,
         })

@@ -10,6 +10,7 @@ use crate::flow::Flow;
 use crate::numbers::{drill_number, next};
 use dp_messages::Msg;
 use dp_msg_draw::{Dab, Dabs, Draw, Title};
+use dp_sure_session::SureSession;
 use std::alloc::{AllocError, Global};
 
 /// The layer of the first client.
@@ -24,7 +25,7 @@ pub(crate) struct Brush {
 }
 
 /// Three clients join, and the first makes a canvas with a layer.
-pub(crate) fn begin(alloc: Global, flow: &mut Flow) -> Result<(), AllocError>
+pub(crate) fn begin<S: SureSession>(alloc: Global, flow: &mut Flow<S>) -> Result<(), AllocError>
     requires { flow.old.past.first_fault ≡ None }
     ensures ok { OnOk result (flow.new ≡ fold flow_after flow.old first_actions) }
     ensures sure { OnOk result (flow.new.past.first_fault ≡ None) }
@@ -51,9 +52,9 @@ pub(crate) fn begin(alloc: Global, flow: &mut Flow) -> Result<(), AllocError>
 }
 
 /// This number of rounds, from a state of the generator on.
-pub(crate) fn play_rounds(
+pub(crate) fn play_rounds<S: SureSession>(
     alloc: Global,
-    flow: &mut Flow,
+    flow: &mut Flow<S>,
     seed: u64,
     count: u32,
 ) -> Result<(), AllocError>
@@ -75,7 +76,12 @@ pub(crate) fn play_rounds(
 
 /// A round, of the two numbers that it takes.
 #[tactic(auto, unfolding(crate::specs::Schedule::round))]
-fn play_round(alloc: Global, flow: &mut Flow, r: u64, v: u64) -> Result<(), AllocError>
+fn play_round<S: SureSession>(
+    alloc: Global,
+    flow: &mut Flow<S>,
+    r: u64,
+    v: u64,
+) -> Result<(), AllocError>
     requires sure { flow.old.past.first_fault ≡ None }
     requires small { (r < 2 ^ 31) × (v < 2 ^ 31) }
     ensures ok { OnOk result (flow.new ≡ fold flow_after flow.old (round r v)) }
@@ -100,9 +106,9 @@ fn round_brush(s: u64, v: u64) -> Brush
 
 /// What a client does in a round of this kind. What it takes leaves the session as it is.
 #[tactic(auto, using(crate::proofs::Schedules::take_made))]
-fn do_round(
+fn do_round<S: SureSession>(
     alloc: Global,
-    flow: &mut Flow,
+    flow: &mut Flow<S>,
     client: u32,
     kind: u8,
     brush: Brush,

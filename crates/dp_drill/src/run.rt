@@ -16,12 +16,14 @@ use crate::laws::drills_need_no_clients;
 use crate::painting::paint_history;
 use crate::rounds::{begin, play_rounds};
 use crate::summary::{summary, sums_of};
+use dp_batch::BatchBoard;
 use dp_epochs::Entries;
 use dp_io::{Failed, Sink, put_all};
 use dp_lines::RunEnd;
 use dp_messages::Entry;
 use dp_par::Workers;
 use dp_steps::Steps;
+use dp_sure_session::SureSession;
 use dp_wire::Gate;
 use std::alloc::{AllocError, Global};
 use std::sync::ledger::Ledger;
@@ -44,7 +46,15 @@ pub struct Drill {
 /// `Memory` if memory ran out: nothing was written.
 ///
 /// The rule: docs/protocol.md, "Drills".
-pub fn run_drill<R: Threads + Sync, O: Sink, G: Gate, D: Ledger, T: Ledger>(
+pub fn run_drill<
+    S: SureSession,
+    B: BatchBoard,
+    R: Threads + Sync,
+    O: Sink,
+    G: Gate,
+    D: Ledger,
+    T: Ledger,
+>(
     rt: &R,
     alloc: Global,
     drill: Drill,
@@ -59,7 +69,7 @@ pub fn run_drill<R: Threads + Sync, O: Sink, G: Gate, D: Ledger, T: Ledger>(
         → FaultMatchesEnd n n (O.faults output.old) (O.faults output.new) result }
     ensures output_later { O.faults output.old ≤ O.faults output.new }
 {
-    let Ok(text) = drill_text(rt, alloc, drill, workers, draws, tiles) else {
+    let Ok(text) = drill_text::<S, B, R, G, D, T>(rt, alloc, drill, workers, draws, tiles) else {
         return RunEnd::Memory;
     };
     match put_all(output, &text) {
@@ -69,7 +79,7 @@ pub fn run_drill<R: Threads + Sync, O: Sink, G: Gate, D: Ledger, T: Ledger>(
 }
 
 /// What a drill prints.
-fn drill_text<R: Threads + Sync, G: Gate, D: Ledger, T: Ledger>(
+fn drill_text<S: SureSession, B: BatchBoard, R: Threads + Sync, G: Gate, D: Ledger, T: Ledger>(
     rt: &R,
     alloc: Global,
     drill: Drill,
@@ -81,14 +91,22 @@ fn drill_text<R: Threads + Sync, G: Gate, D: Ledger, T: Ledger>(
     ensures few { CountsFew reach (drill_due drill.seed drill.rounds)
         draws.old draws.new tiles.old tiles.new }
 {
-    let entries = drill_history(alloc, drill)?;
-    let text = summary_of(rt, alloc, drill, entries.as_slice(), workers, draws, tiles);
+    let entries = drill_history::<S>(alloc, drill)?;
+    let text = summary_of::<B, R, G, D, T>(
+        rt,
+        alloc,
+        drill,
+        entries.as_slice(),
+        workers,
+        draws,
+        tiles,
+    );
     drop(entries);
     text
 }
 
 /// The summary of a drill with this history.
-fn summary_of<R: Threads + Sync, G: Gate, D: Ledger, T: Ledger>(
+fn summary_of<B: BatchBoard, R: Threads + Sync, G: Gate, D: Ledger, T: Ledger>(
     rt: &R,
     alloc: Global,
     drill: Drill,
@@ -102,24 +120,28 @@ fn summary_of<R: Threads + Sync, G: Gate, D: Ledger, T: Ledger>(
     ensures few { CountsFew reach (drawn_commands undo_depth (map user_act_of entries.now))
         draws.old draws.new tiles.old tiles.new }
 {
-    let canvas = paint_history(rt, alloc, entries, workers, draws, tiles)?;
-    let sums = sums_of(&canvas);
-    drop(canvas);
+    let board: B = paint_history(rt, alloc, entries, workers, draws, tiles)?;
+    let sums = sums_of(&board);
+    drop(board);
     summary(alloc, drill.seed, drill.rounds, entries.len(), sums)
 }
 
 /// The history that the session has after a drill.
-fn drill_history(alloc: Global, drill: Drill) -> Result<Entries, AllocError>
+fn drill_history<S: SureSession>(alloc: Global, drill: Drill) -> Result<Entries, AllocError>
     ensures { IfOk result (λ entries. entries ≡ drill_history drill.seed drill.rounds) }
 {
-    let mut flow = Flow::new(alloc)?;
+    let mut flow = Flow::<S>::new(alloc)?;
     let entries = play_drill(alloc, &mut flow, drill);
     drop(flow);
     entries
 }
 
 /// The history after a drill. No `?` holds the session.
-fn play_drill(alloc: Global, flow: &mut Flow, drill: Drill) -> Result<Entries, AllocError>
+fn play_drill<S: SureSession>(
+    alloc: Global,
+    flow: &mut Flow<S>,
+    drill: Drill,
+) -> Result<Entries, AllocError>
     requires { flow.old ≡ first_flow }
     ensures { IfOk result (λ entries. entries ≡ drill_history drill.seed drill.rounds) }
 {

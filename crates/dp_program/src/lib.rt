@@ -1,6 +1,8 @@
-//! The program over what a machine has: its standard streams, its sockets and its files.
+//! What a machine gives the program: its words, its standard streams, its sockets and its files.
 #![tactic(auto)]
 
-mod program;
+mod given;
+mod store;
 
-pub use program::run;
+pub use given::{Given, StdStreams};
+pub use store::Store;

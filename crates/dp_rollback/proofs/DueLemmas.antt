@@ -15,14 +15,16 @@ use Rattle.dp_board.specs.Joins.{joins}
 use Rattle.dp_board.specs.Commands.{command_of, all_commands}
 use Rattle.dp_board.specs.Moves.{is_draw}
 use Rattle.dp_board.specs.Table.{moved_in, oldest_in}
-use Rattle.dp_rollback.specs.declared.kept.KeptAct.{KeptAct}
-use Rattle.dp_rollback.specs.Kept.{kept_of, commands_among}
+use Rattle.dp_savepoints.specs.declared.kept.KeptAct.{KeptAct}
+use Rattle.dp_savepoints.specs.Kept.{kept_of, commands_among}
 use Rattle.dp_rollback.specs.Due.{due_by, due_commands, change_by, change_of}
 use Rattle.dp_rollback.specs.Due.{OwnCommandIsDue, FewAreDue}
 use Rattle.dp_rollback.specs.Rollback.{Rolled, StandsFor}
-use Rattle.dp_rollback.specs.Moves.{mark_by, mark_in, due_in}
-use Rattle.dp_rollback.proofs.KeptLemmas.{commands_among-drop}
-use Rattle.dp_rollback.specs.Laws.{Laws}
+use Rattle.dp_savepoints.specs.Marks.{mark_by, mark_in}
+use Rattle.dp_rollback.specs.Moves.{due_in}
+use Rattle.dp_savepoints.proofs.KeptLemmas.{commands_among-drop}
+use Rattle.dp_savepoints.specs.Laws.{Laws}
+use Rattle.dp_savepoints.proofs.KeptLemmas.{length-command_of}
 
 -- an act that moves no group may draw its own command
 due_by-none : {Op : Type 0} → (acts : List (UserAct Op)) (act : Act Op)
@@ -98,28 +100,10 @@ change-made laws draw a r known blank depth acts st =
     change_by-made a a.act (moved_in r.table a)
     ∙ ap (change_by a.act) (laws.moved depth acts a r.table known st.table)
 
--- what is left to draw at a place
-pub commands_among-at : {Op : Type 0} → (kept : List (KeptAct Op)) (i : ℕ) (k : KeptAct Op)
-    → i < length kept → k ≡ get_or kept i k
-    → commands_among (drop i kept) ≡ command_of k.act.act true ++ commands_among (drop (i + 1) kept)
-commands_among-at kept i k within is =
-    ap commands_among (drop_more kept i k within
-    ∙ ap (λ j. j ∷ drop (i + 1) kept) (sym is))
-
 -- an act that moves no group may draw its own command alone
 pub own_command_is_due : (Op : Type 0) → OwnCommandIsDue Op
 own_command_is_due Op depth acts a none =
     ap (due_by acts a.act) none ∙ sym (due_by-none acts a.act)
-
-pub length-command_of : {Op : Type 0} → (act : Act Op) (drawn : Bool)
-    → length (command_of act drawn) ≤ 1
-length-command_of (Draw op) true = omega arith
-length-command_of (Draw op) false = omega arith
-length-command_of Point drawn = omega arith
-length-command_of (Undo who) drawn = omega arith
-length-command_of (Redo who) drawn = omega arith
-length-command_of (Depth d) drawn = omega arith
-length-command_of Other drawn = omega arith
 
 length-all_commands : {Op : Type 0} → (acts : List (UserAct Op))
     → length (all_commands acts) ≤ length acts

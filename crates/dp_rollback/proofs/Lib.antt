@@ -1,5 +1,3 @@
-pub mod KeptLemmas
-pub mod HistoryLemmas
 pub mod StandLemmas
 pub mod RunLemmas
 pub mod DueLemmas

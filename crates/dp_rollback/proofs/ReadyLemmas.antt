@@ -15,9 +15,11 @@ use Rattle.dp_board.specs.Counts.{CountsFew}
 use Rattle.dp_rollback.specs.Due.{due_commands, change_of, CountsDue}
 use Rattle.dp_rollback.specs.Rollback.{Rolled, Next, StandsFor, put_on, change_in, grown, needless}
 use Rattle.dp_rollback.specs.Rollback.{IsInOrder}
-use Rattle.dp_rollback.specs.Moves.{mark_in, due_in, IsKnown, IsNext, IsDrawnFor, next_here}
-use Rattle.dp_rollback.specs.Moves.{HasAdded, kept_in, saves_after}
-use Rattle.dp_rollback.specs.Laws.{Laws}
+use Rattle.dp_savepoints.specs.Marks.{mark_in}
+use Rattle.dp_rollback.specs.Moves.{due_in, IsKnown, IsNext, IsDrawnFor, next_here}
+use Rattle.dp_rollback.specs.Moves.{HasAdded, saves_after}
+use Rattle.dp_savepoints.specs.Marks.{kept_in}
+use Rattle.dp_savepoints.specs.Laws.{Laws}
 use Rattle.dp_rollback.proofs.StandLemmas.{StandsFor-put_on, StandsFor-spare}
 use Rattle.dp_rollback.proofs.DueLemmas.{due_in-due, change-made}
 

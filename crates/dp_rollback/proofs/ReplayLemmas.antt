@@ -8,9 +8,9 @@ use Rattle.dp_board.specs.declared.act.UserAct.{UserAct}
 use Rattle.dp_board.specs.Flags.{drawn_flags}
 use Rattle.dp_board.specs.Commands.{command_of, commands, drawn_commands}
 use Rattle.dp_board.specs.Moves.{is_draw}
-use Rattle.dp_rollback.specs.Laws.{Laws}
+use Rattle.dp_savepoints.specs.Laws.{Laws}
 use Rattle.dp_rollback.specs.Replays.{ReplayGoesOn}
-use Rattle.dp_rollback.proofs.KeptLemmas.{command_of-is_draw}
+use Rattle.dp_savepoints.proofs.KeptLemmas.{command_of-is_draw}
 
 -- the commands with one more act
 commands-push : {Op : Type 0} → (acts : List (UserAct Op)) (flags : List Bool) (a : UserAct Op)

@@ -27,29 +27,27 @@ use Rattle.dp_board.specs.Table.{Table, IsTableAfter, next_strokes, moved_in, ol
 use Rattle.dp_board.specs.Table.{table_with}
 use Rattle.dp_board.proofs.RisingLemmas.{rising-push}
 use Rattle.dp_board.proofs.TableSteps.{window_after-before}
-use Rattle.dp_rollback.specs.declared.kept.KeptAct.{KeptAct}
-use Rattle.dp_rollback.specs.declared.kept.Mark.{Mark}
-use Rattle.dp_rollback.specs.Kept.{kept_of, drawn_command, drawn_among, marked}
-use Rattle.dp_rollback.specs.Rollback.{PointSave, Rolled, Next, drawn_first, StandsFor, IsInOrder}
+use Rattle.dp_savepoints.specs.declared.kept.KeptAct.{KeptAct}
+use Rattle.dp_savepoints.specs.declared.kept.Mark.{Mark}
+use Rattle.dp_savepoints.specs.Kept.{kept_of, drawn_command, drawn_among, marked}
+use Rattle.dp_savepoints.specs.Saves.{PointSave}
+use Rattle.dp_rollback.specs.Rollback.{Rolled, Next, StandsFor, IsInOrder}
+use Rattle.dp_savepoints.specs.Kept.{drawn_first}
 use Rattle.dp_rollback.specs.Rollback.{let_go, grown, needless, put_on, FitsOn}
-use Rattle.dp_rollback.specs.Rollback.{points_of}
+use Rattle.dp_savepoints.specs.Saves.{points_of}
 use Rattle.dp_rollback.specs.Rollback.{board_at, AreSaved, KeepsReach}
-use Rattle.dp_rollback.specs.Runs.{run_to, saved_anew, save_anew}
-use Rattle.dp_rollback.specs.Moves.{mark_by, kept_in, kept_from, IsRedrawn, IsDrawnLast, IsDrawnFor}
-use Rattle.dp_rollback.specs.Moves.{IsKnown, IsNext, save_of, saves_after, mark_in}
-use Rattle.dp_rollback.specs.Laws.{Laws}
-use Rattle.dp_rollback.proofs.KeptLemmas.{command_of-is_draw, command_of-false}
-use Rattle.dp_rollback.proofs.HistoryLemmas.{length-kept_of, replay-kept_of, moved-no_draw}
-use Rattle.dp_rollback.proofs.HistoryLemmas.{kept_of-unmoved, kept_of-moved, take-kept_of-moved}
-use Rattle.dp_rollback.proofs.HistoryLemmas.{take-kept_of-unmoved, take-marked}
-
--- commands of two parts are drawn in turn
-pub fold-drawn : {B Op : Type 0} → (draw : B → Op → B) (b : B) (xs ys : List (KeptAct Op))
-    → fold draw b (drawn_among (xs ++ ys))
-    ≡ fold draw (fold draw b (drawn_among xs)) (drawn_among ys)
-fold-drawn draw b xs ys =
-    ap (fold draw b) (flat_map-append drawn_command xs ys)
-    ∙ fold-append draw b (drawn_among xs) (drawn_among ys)
+use Rattle.dp_savepoints.specs.Runs.{run_to, saved_anew, save_anew}
+use Rattle.dp_savepoints.specs.Marks.{mark_by, kept_in}
+use Rattle.dp_rollback.specs.Moves.{kept_from, IsRedrawn, IsDrawnLast, IsDrawnFor}
+use Rattle.dp_rollback.specs.Moves.{IsKnown, IsNext, saves_after}
+use Rattle.dp_savepoints.specs.Saves.{save_of}
+use Rattle.dp_savepoints.specs.Marks.{mark_in}
+use Rattle.dp_savepoints.specs.Laws.{Laws}
+use Rattle.dp_savepoints.proofs.KeptLemmas.{command_of-is_draw, command_of-false}
+use Rattle.dp_savepoints.proofs.HistoryLemmas.{length-kept_of, replay-kept_of, moved-no_draw}
+use Rattle.dp_savepoints.proofs.HistoryLemmas.{kept_of-unmoved, kept_of-moved, take-kept_of-moved}
+use Rattle.dp_savepoints.proofs.HistoryLemmas.{take-kept_of-unmoved, take-marked}
+use Rattle.dp_savepoints.proofs.KeptLemmas.{fold-drawn, kept-push, take-more}
 
 -- without the first acts it stands for the same history
 pub StandsFor-let_go : {B Op : Type 0} → (draw : B → Op → B) (blank : B) (depth : ℕ)
@@ -61,12 +59,6 @@ StandsFor-let_go draw blank depth acts r count st = record {
   board = st.board;
   saves = st.saves;
 }
-
--- what is kept, with one more act
-pub kept-push : {Op : Type 0} → (base : ℕ) (kept all : List (KeptAct Op)) (k : KeptAct Op)
-    → kept ≡ drop base all → base ≤ length all → kept ++ k ∷ [] ≡ drop base (all ++ k ∷ [])
-kept-push base kept all k is within =
-    ap (λ xs. xs ++ k ∷ []) is ∙ sym (drop-append-le base all (k ∷ []) within)
 
 -- as many acts are kept, from the base on, as the history has
 base-within : {B Op : Type 0} → (draw : B → Op → B) (blank : B) (depth : ℕ)
@@ -220,14 +212,6 @@ StandsFor-drawn laws draw blank depth acts a r board saves sender known st order
           (before-of r order) st.saves))
           (save_of-in draw blank depth later r.table.position r.board a.act saved);
     }
-
--- a part and what comes after it make a longer part
-pub take-more : {X : Type 0} → (m n : ℕ) (xs : List X) → take m xs ++ take n (drop m xs)
-    ≡ take (m + n) xs
-take-more m n xs =
-    ap (λ ys. take m xs ++ ys) (sym (drop-take m n xs))
-    ∙ ap (λ ys. ys ++ drop m (take (m + n) xs)) (sym (take-take m (m + n) xs (omega arith)))
-    ∙ take-append-drop m (take (m + n) xs)
 
 -- a group that moves is in reach
 pub record IsBefore {B Op : Type 0} (r : Rolled B Op) (mark : Mark) : Type 0 where

@@ -12,23 +12,14 @@ use Rattle.dp_board.specs.Laws.{depth_in}
 use Rattle.dp_board.specs.Commands.{command_of}
 use Rattle.dp_board.specs.Moves.{is_redo, is_draw}
 use Rattle.dp_board.specs.Table.{Table, moved_in, joined_in, next_strokes, oldest_in, table_with}
-use Rattle.dp_rollback.specs.declared.kept.KeptAct.{KeptAct}
-use Rattle.dp_rollback.specs.declared.kept.Mark.{Mark}
-use Rattle.dp_rollback.specs.Kept.{marked, commands_among}
-use Rattle.dp_rollback.specs.Rollback.{PointSave, Rolled, Next, IsInOrder, put_on, change_in}
-use Rattle.dp_rollback.specs.Runs.{IsDrawnAnew}
-
--- the mark of an act that moves the group
-abbrev pub mark_by : {Op : Type 0} → UserAct Op → ℕ → Mark
-mark_by a group = record { user = concerned a; group = group; drawn = is_redo a.act }
-
--- the mark of an act, if it moves a group
-abbrev pub mark_in : {Op : Type 0} → Table → UserAct Op → Option Mark
-mark_in table a = option_map (mark_by a) (moved_in table a)
-
--- an act that comes next, as it is kept
-abbrev pub kept_in : {Op : Type 0} → Table → UserAct Op → KeptAct Op
-kept_in table a = record { act = a; join = joined_in table a; drawn = is_draw a.act }
+use Rattle.dp_savepoints.specs.declared.kept.KeptAct.{KeptAct}
+use Rattle.dp_savepoints.specs.declared.kept.Mark.{Mark}
+use Rattle.dp_savepoints.specs.Kept.{marked, commands_among}
+use Rattle.dp_savepoints.specs.Saves.{PointSave}
+use Rattle.dp_rollback.specs.Rollback.{Rolled, Next, IsInOrder, put_on, change_in}
+use Rattle.dp_savepoints.specs.Runs.{IsDrawnAnew}
+use Rattle.dp_savepoints.specs.Marks.{mark_by, mark_in, kept_in}
+use Rattle.dp_savepoints.specs.Saves.{save_of}
 
 -- the acts from the Point of the group of a mark on
 abbrev pub kept_from : {B Op : Type 0} → Rolled B Op → Mark → List (KeptAct Op)
@@ -54,11 +45,6 @@ abbrev pub IsDrawnFor : {B Op : Type 0}
     → (B → Op → B) → Rolled B Op → Act Op → Option Mark → B → List (PointSave B) → Type 0
 IsDrawnFor draw r act None board saves = IsDrawnLast draw r act board saves
 IsDrawnFor draw r act (Some mark) board saves = IsRedrawn draw r mark board saves
-
--- the savepoint of an act at a position, if it is a Point that comes on this board
-abbrev pub save_of : {B Op : Type 0} → ℕ → B → Act Op → List (PointSave B)
-save_of position board Point = (record { point = position; board = board }) ∷ []
-save_of position board act = []
 
 -- the savepoints after an act that comes on this board: those of the last Points alone
 abbrev pub saves_after : {B Op : Type 0}

@@ -9,18 +9,11 @@ use Rattle.dp_board.specs.declared.act.Change.{Change}
 use Rattle.dp_board.specs.declared.act.Change.TheVariants.{Drew, Rebuilt, Nothing}
 use Rattle.dp_board.specs.Replay.{replay}
 use Rattle.dp_board.specs.Table.{Table, NextStrokes, IsTableAfter, oldest_in, table_with}
-use Rattle.dp_rollback.specs.declared.kept.KeptAct.{KeptAct}
-use Rattle.dp_rollback.specs.declared.kept.Mark.{Mark}
-use Rattle.dp_rollback.specs.Kept.{kept_of, drawn_among, marked_all}
-
--- the savepoint of a Point in reach: the board at it
-pub record PointSave (B : Type 0) : Type 0 where
-  pub point : ℕ
-  pub board : B
-
--- the Points that savepoints are of
-abbrev pub points_of : {B : Type 0} → List (PointSave B) → List ℕ
-points_of saves = map (λ save. save.point) saves
+use Rattle.dp_savepoints.specs.declared.kept.KeptAct.{KeptAct}
+use Rattle.dp_savepoints.specs.declared.kept.Mark.{Mark}
+use Rattle.dp_savepoints.specs.Kept.{kept_of, drawn_among, marked_all}
+use Rattle.dp_savepoints.specs.Kept.{drawn_first}
+use Rattle.dp_savepoints.specs.Saves.{PointSave, points_of}
 
 -- a board, the strokes of all users, the last acts, from the position `base` on, and the savepoints
 -- of the Points in reach. There is room for `spare` more acts
@@ -40,10 +33,6 @@ pub record Next (B Op : Type 0) : Type 0 where
   pub strokes : NextStrokes
   pub board : B
   pub saves : List (PointSave B)
-
--- the commands that are drawn among the first `count` acts of a history
-abbrev pub drawn_first : {Op : Type 0} → ℕ → List (UserAct Op) → ℕ → List Op
-drawn_first depth acts count = drawn_among (take count (kept_of depth acts))
 
 -- the board at a position of a history: the commands before it are drawn that are drawn in the
 -- whole history

@@ -1,10 +1,9 @@
 //! Laws of the definitions. The functions do nothing: their contracts are the laws.
 
 ghost use Rattle.dp_rollback.specs.Due.{OwnCommandIsDue, FewAreDue};
-ghost use Rattle.dp_rollback.specs.Laws.{Laws};
 ghost use Rattle.dp_rollback.specs.Replays.{ReplayGoesOn};
 
-use dp_board::{each_act_has_a_flag, flags_go_on, groups_come_first, tables_follow};
+use dp_savepoints::stroke_laws;
 
 /// An act that moves no group may draw its own command alone. One that moves a group draws at most
 /// as many commands as there are acts from the point of that group on.
@@ -19,14 +18,4 @@ pub fn replay_goes_on<B, Op>()
     ensures { ReplayGoesOn B Op }
 {
     stroke_laws::<Op>();
-}
-
-/// The laws of strokes and flags.
-pub fn stroke_laws<Op>()
-    ensures { Laws Op }
-{
-    flags_go_on::<Op>();
-    groups_come_first::<Op>();
-    each_act_has_a_flag::<Op>();
-    tables_follow::<Op>();
 }

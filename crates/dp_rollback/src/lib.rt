@@ -5,17 +5,10 @@
 //! more is let go.
 #![tactic(auto)]
 
-mod kept;
 mod laws;
 mod ready;
-mod redraw;
 mod rollback;
-mod room;
-mod run;
-mod saves;
 
-pub use kept::{KeptAct, Mark, mark_all};
-pub use laws::{few_are_due, replay_goes_on, stroke_laws};
+pub use laws::{few_are_due, replay_goes_on};
 pub use ready::Ready;
-pub use redraw::draw_act;
-pub use rollback::{Rollback, is_draw, mark_of};
+pub use rollback::Rollback;

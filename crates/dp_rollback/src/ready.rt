@@ -3,9 +3,8 @@
 ghost use Rattle.std.specs.Prelude.{◌≡◌};
 ghost use Rattle.dp_rollback.specs.Rollback.{change_in};
 
-use crate::kept::{KeptAct, Mark};
-use crate::saves::Save;
 use dp_board::{Board, Change, NextStrokes};
+use dp_savepoints::{KeptAct, Mark, Save};
 use std::marker::Model;
 
 /// What an act makes of a rollback, with all the memory that it takes.

@@ -13,23 +13,21 @@ ghost use Rattle.dp_board.specs.Moves.{is_draw};
 ghost use Rattle.dp_board.specs.Strokes.{concerned, is_eligible};
 ghost use Rattle.dp_board.specs.Commands.{command_of};
 ghost use Rattle.dp_board.specs.Counts.{CountsFew};
-ghost use Rattle.dp_rollback.specs.Kept.{commands_among};
+ghost use Rattle.dp_savepoints.specs.Kept.{commands_among};
 ghost use Rattle.dp_rollback.specs.Due.{CountsDue, change_of};
 ghost use Rattle.dp_rollback.specs.Rollback.{StandsFor, IsInOrder, FitsOn, put_on, change_in};
-ghost use Rattle.dp_rollback.specs.Moves.{mark_in, kept_from, due_in, save_of};
+ghost use Rattle.dp_savepoints.specs.Marks.{mark_in};
+ghost use Rattle.dp_rollback.specs.Moves.{kept_from, due_in};
+ghost use Rattle.dp_savepoints.specs.Saves.{save_of};
 ghost use Rattle.dp_rollback.specs.Moves.{HasAdded};
 ghost use Rattle.dp_rollback.specs.Moves.{IsRedrawn, IsDrawnLast, IsMade, IsKnown, IsNext};
 
-use crate::kept::{KeptAct, Mark};
-use crate::laws::stroke_laws;
 use crate::ready::Ready;
-use crate::redraw::{draw_act, draw_next};
-use crate::room::{add_act, let_go};
-use crate::run::Run;
-use crate::saves::{
-    Save, copy_saves, depth_after, forget, push_save, put_save, save_at, save_last, save_of,
+use dp_board::{Act, Board, Change, StrokeTable, UserAct, tables_follow};
+use dp_savepoints::{
+    KeptAct, Mark, Run, Save, add_act, copy_saves, depth_after, draw_act, draw_next, forget,
+    is_draw, let_go, mark_of, push_save, put_save, save_at, save_last, save_of, stroke_laws,
 };
-use dp_board::{Act, Board, Change, StrokeTable, UserAct, concerned, tables_follow};
 use dp_steps::Steps;
 use std::alloc::{AllocError, Global};
 use std::marker::Model;
@@ -75,7 +73,8 @@ impl<B: Board> Model for Rollback<B> {
     ghost use Rattle.std.specs.Prelude.{◌≡◌, ◌-◌, min};
     ghost use Rattle.std.specs.Vec.{vec_len, vec_capacity};
     ghost use Rattle.std.specs.Option.{ForSome};
-    ghost use Rattle.dp_rollback.specs.Rollback.{Rolled, KeepsReach, points_of};
+    ghost use Rattle.dp_rollback.specs.Rollback.{Rolled, KeepsReach};
+    ghost use Rattle.dp_savepoints.specs.Saves.{points_of};
 
     ghost Value = { Rolled B B.Op };
 
@@ -107,34 +106,11 @@ fn copy_act<B: Board>(alloc: Global, act: &Act<B::Op>) -> Result<Act<B::Op>, All
     })
 }
 
-/// Whether an act is a command.
-pub fn is_draw<Op>(act: &Act<Op>) -> bool
-    ensures { result ≡ is_draw act.now }
-{
-    matches!(act, Act::Draw(_))
-}
-
 /// What an act that moves no group does to the board.
 fn change_by_draw(drawn: bool) -> Change
     ensures { result ≡ (if drawn then Drew else Nothing) }
 {
     if drawn { Change::Drew } else { Change::Nothing }
-}
-
-/// The mark of an act, if it moves a group.
-#[tactic(auto, using(crate::proofs::RunLemmas::moved_is_eligible))]
-pub fn mark_of<Op>(table: &StrokeTable, act: &UserAct<Op>) -> Option<Mark>
-    ensures value { result ≡ mark_in table.now act.now }
-    ensures among { IfSome result (λ mark. is_eligible table.now.window mark.group ≡ true) }
-    ensures reach { IfSome result (λ mark. oldest_in table.now ≤ mark.group) }
-    ensures before { IfSome result (λ mark. mark.group < table.now.position) }
-{
-    let group = table.moved(act)?;
-    Some(Mark {
-        user: concerned(act),
-        group,
-        drawn: matches!(act.act, Act::Redo { .. }),
-    })
 }
 
 /// What is drawn for an act: the board and the savepoints.

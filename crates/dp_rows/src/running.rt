@@ -1,13 +1,17 @@
 //! The program, as rows run it.
 
+ghost use Rattle.std.specs.Prelude.{◌≡◌, ◌<◌};
 ghost use Rattle.std.specs.Thread.{IsSync};
 
-use dp_app_runs::{Host, Left, Resources, outcome_over};
+use dp_app::{Outcome, drawpile};
 use dp_row_runs::{RowLeft, RowRun, RowStreams, RunsRow, run};
 use dp_row_wires::{Told, put_told};
 use dp_serve::Reports;
+use dp_steps::Steps;
 use std::alloc::{AllocError, Global};
+use std::marker::Brand;
 use std::sync::Wait;
+use std::sync::ledger::{Blank, Ledger};
 use std::thread::Threads;
 
 /// The program, which starts threads of this runtime.
@@ -28,32 +32,7 @@ impl<'a, R: Threads + Wait + Sync> RunsRow for Program<'a, R> {
         run: RowRun<'_>,
         streams: &mut RowStreams<'_>,
     ) -> RowLeft<Reports> {
-        let rt = self.rt;
-        let RowRun {
-            words,
-            wires,
-            keeper,
-            gate,
-        } = run;
-        let Left {
-            status,
-            wires,
-            keeper,
-            reports,
-        } = outcome_over(
-            Host { rt, alloc, gate },
-            words,
-            &mut streams.input,
-            &mut streams.output,
-            &mut streams.diag,
-            Resources { wires, keeper },
-        );
-        RowLeft {
-            status,
-            wires,
-            keeper,
-            reports,
-        }
+        branded(self.rt, alloc, run, streams)
     }
 
     fn put_reports(
@@ -75,6 +54,64 @@ impl<'a, R: Threads + Wait + Sync> RunsRow for Program<'a, R> {
             }
         }
         Ok(())
+    }
+}
+
+/// Runs the program with new counters.
+fn branded<R: Threads + Wait + Sync>(
+    rt: &R,
+    alloc: Global,
+    run: RowRun<'_>,
+    streams: &mut RowStreams<'_>,
+) -> RowLeft<Reports> {
+    counted::<R, Brand, Brand>(rt, alloc, run, streams, Blank::new(1), Blank::new(1))
+}
+
+/// Runs the program with counters over these blanks.
+fn counted<R: Threads + Wait + Sync, D: Ledger + Send, T: Ledger + Send>(
+    rt: &R,
+    alloc: Global,
+    run: RowRun<'_>,
+    streams: &mut RowStreams<'_>,
+    draws: Blank,
+    tiles: Blank,
+) -> RowLeft<Reports>
+    requires draws { (draws.name ≡ D.name) × (draws.parts ≡ D.parts) × (0 < draws.parts) }
+    requires tiles { (tiles.name ≡ T.name) × (tiles.parts ≡ T.parts) × (0 < tiles.parts) }
+{
+    let RowRun {
+        words,
+        wires,
+        keeper,
+        gate,
+    } = run;
+    let Outcome {
+        status,
+        wires,
+        keeper,
+        journal,
+        shut,
+        reports,
+    } = drawpile(
+        rt,
+        alloc,
+        words,
+        &mut streams.input,
+        &mut streams.output,
+        &mut streams.diag,
+        wires,
+        keeper,
+        gate,
+        &mut Steps::<D>::new(draws),
+        &mut Steps::<T>::new(tiles),
+    );
+    drop(journal);
+    drop(shut);
+    RowLeft {
+        status,
+        wires,
+        keeper,
+        reports,
     }
 }
 

@@ -10,7 +10,7 @@ use Rattle.dp_epochs.specs.State.{open_in}
 use Rattle.dp_epochs.specs.Past.{Past, Step, state_of}
 use Rattle.dp_session_laws.specs.Logs.{ReplyOrMemory}
 use Rattle.dp_session_laws.specs.Journals.{is_kept}
-use Rattle.dp_serve.specs.Talking.{is_last_failed, is_last_store_fault}
+use Rattle.dp_link_run.specs.Talking.{is_last_failed, is_last_store_fault}
 use Rattle.dp_serve.specs.Serving.{Seen, Left, Serves}
 
 -- the numbers above this one of the connections that are open among these, rising

@@ -1,5 +1,4 @@
 pub mod Links
-pub mod Talking
 pub mod Works
 pub mod Serving
 pub mod Closings

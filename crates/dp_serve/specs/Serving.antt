@@ -15,7 +15,7 @@ use Rattle.dp_crew.specs.Runs.{acts_of}
 use Rattle.dp_crew.specs.Parts.{EachFrom, names_of, reports_of}
 use Rattle.dp_crew.specs.Parts as crew
 use Rattle.dp_serve.specs.declared.report.LinkReport.{LinkReport}
-use Rattle.dp_serve.specs.Links.{LinkState, has_store_fault}
+use Rattle.dp_link_run.specs.Links.{LinkState, has_store_fault}
 use Rattle.dp_serve.specs.Works.{session_rules}
 
 -- what contracts see of a wire: its links, if they are known, how often it has failed, and the

@@ -6,7 +6,8 @@ use Rattle.dp_epochs.specs.declared.event.Event.{Event}
 use Rattle.dp_session_laws.specs.Logs.{ReplyOrMemory}
 use Rattle.dp_crew.specs.Runs as crew
 use Rattle.dp_serve.specs.declared.report.LinkReport.{LinkReport}
-use Rattle.dp_serve.specs.Links.{LinkState, IsLink, ran_out, is_store_fault}
+use Rattle.dp_link_run.specs.Links.{LinkState, ran_out, is_store_fault}
+use Rattle.dp_serve.specs.Links.{IsLink}
 
 -- a link that was served: its report, its acts, and the pair as it was handed out and as it was
 -- handed back

@@ -3,7 +3,7 @@
 ghost use Rattle.std.specs.Prelude.{◌≡◌};
 ghost use Rattle.dp_epochs.specs.Laws.{ShutBefore};
 ghost use Rattle.dp_session_laws.specs.Journals.{is_kept};
-ghost use Rattle.dp_serve.specs.Talking.{is_last_failed, is_last_store_fault};
+ghost use Rattle.dp_link_run.specs.Talking.{is_last_failed, is_last_store_fault};
 ghost use Rattle.dp_serve.specs.Closings.{ClosesEach, open_numbers};
 
 use dp_any_session::{AnySession, SessionCore};

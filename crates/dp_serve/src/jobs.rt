@@ -7,7 +7,7 @@ ghost use Rattle.dp_epochs.specs.Laws.{ShutBefore};
 ghost use Rattle.dp_crew.specs.Runs.{most_links};
 ghost use Rattle.dp_crew.specs.Jobs.{RanJob, RanJobs};
 ghost use Rattle.dp_crew.specs.Gathering.{Gathers, IsFirst, all_reports};
-ghost use Rattle.dp_serve.specs.Links.{link_seen};
+ghost use Rattle.dp_link_run.specs.Links.{link_seen};
 ghost use Rattle.dp_serve.specs.Works.{session_rules};
 
 use crate::LinkReport;

@@ -6,8 +6,6 @@
 
 mod closings;
 mod jobs;
-mod link;
-mod pumps;
 mod report;
 mod server;
 mod told;

@@ -4,7 +4,7 @@ ghost use Rattle.std.specs.Prelude.{◌≡◌, ◌≤◌, [], length, true, fals
 ghost use Rattle.dp_hall.specs.Calls.{IsOf, IsAlone};
 ghost use Rattle.dp_epochs.specs.Laws.{ShutBefore};
 ghost use Rattle.dp_crew.specs.Runs.{most_links};
-ghost use Rattle.dp_serve.specs.Links.{link_seen};
+ghost use Rattle.dp_link_run.specs.Links.{link_seen};
 ghost use Rattle.dp_serve.specs.Serving.{Serves};
 ghost use Rattle.dp_serve.specs.Closings.{ServesOn, ClosesTo};
 

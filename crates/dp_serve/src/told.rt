@@ -1,6 +1,6 @@
 //! What is told of the links of a session.
 
-ghost use Rattle.dp_serve.specs.Links.{link_seen};
+ghost use Rattle.dp_link_run.specs.Links.{link_seen};
 ghost use Rattle.dp_serve.specs.Works.{session_rules};
 
 use crate::LinkReport;
@@ -13,7 +13,7 @@ use dp_session_laws::{feeds_go_on, gone_goes_on, sessions_go_on};
 pub(crate) struct Told;
 
 impl<C: SessionCore, R: Source, T: Sink> Reporting<AnySession<C>, R, T> for Told {
-    ghost use Rattle.dp_serve.specs.Links.{link_seen};
+    ghost use Rattle.dp_link_run.specs.Links.{link_seen};
     ghost use Rattle.dp_serve.specs.Works.{session_rules};
 
     type Report = LinkReport;

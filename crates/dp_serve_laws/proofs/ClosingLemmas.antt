@@ -20,8 +20,8 @@ use Rattle.dp_session_laws.specs.Logs.{ReplyOrMemory, LogEntry, IsSessionLog}
 use Rattle.dp_session_laws.specs.Journals.{HasBroken, is_kept}
 use Rattle.dp_session_laws.proofs.JournalLemmas.{Sound, Same, First, sound-step, log-adds}
 use Rattle.dp_session_laws.proofs.JournalLemmas.{broken-log, broken-step, log-broke}
-use Rattle.dp_serve.specs.Links.{is_store_fault, has_store_fault}
-use Rattle.dp_serve.specs.Talking.{is_last_store_fault}
+use Rattle.dp_link_run.specs.Links.{is_store_fault, has_store_fault}
+use Rattle.dp_link_run.specs.Talking.{is_last_store_fault}
 use Rattle.dp_crew.specs.Runs.{acts_of}
 use Rattle.dp_serve.specs.Serving.{Seen, Part, Left, Serves, IsPart}
 use Rattle.dp_serve.specs.Closings.{ClosesEach, ServesOn, open_numbers}

@@ -21,7 +21,7 @@ use Rattle.dp_link.specs.Acts.{IsAct}
 use Rattle.dp_link.specs.Answers.{opened_as}
 use Rattle.dp_link.specs.Hello.{AreOpen, AreOpenAndClose, GreetsBy}
 use Rattle.dp_link.specs.Saying.{AreSpelled, AreSaid, AreSaidTo, SaidBy, AreSays}
-use Rattle.dp_serve.specs.Links.{LinkState, IsServed, LinkBy}
+use Rattle.dp_link_run.specs.Links.{LinkState, IsServed, LinkBy}
 use Rattle.dp_serve_laws.proofs.NamingLemmas.{Names, NamesAfter, OrGiven, after-all}
 
 -- ---- Says

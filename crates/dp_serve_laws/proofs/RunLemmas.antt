@@ -22,7 +22,7 @@ use Rattle.dp_link.specs.Acts.{IsAct}
 use Rattle.dp_link.specs.Answers.{opened_as, reason_of}
 use Rattle.dp_link.specs.Hello.{AreOpen, AreOpenAndClose, GreetsBy}
 use Rattle.dp_link.specs.Saying.{AreSaid, AreSaidTo, SaidBy, AreSays}
-use Rattle.dp_serve.specs.Links.{LinkState, IsServed, LinkBy}
+use Rattle.dp_link_run.specs.Links.{LinkState, IsServed, LinkBy}
 use Rattle.dp_serve_laws.specs.Acts.{is_of, is_about}
 
 -- the act is of this connection, and of no other

@@ -9,7 +9,8 @@ use Rattle.dp_epochs.specs.Past.{Past}
 use Rattle.dp_session_laws.specs.Logs.{LogEntry}
 use Rattle.dp_session_laws.specs.Closings.{given_by, given_out}
 use Rattle.dp_serve.specs.declared.report.LinkReport.{LinkReport}
-use Rattle.dp_serve.specs.Links.{LinkBy, IsLink}
+use Rattle.dp_link_run.specs.Links.{LinkBy}
+use Rattle.dp_serve.specs.Links.{IsLink}
 use Rattle.dp_crew.specs.Runs.{acts_of}
 use Rattle.dp_serve.specs.Works.{LinkRun, IsRun}
 use Rattle.dp_crew.specs.Parts.{EachFrom, acts_by, names_of}

@@ -11,7 +11,7 @@ use Rattle.dp_epochs.specs.Past.{Past, state_after}
 use Rattle.dp_session_laws.specs.Logs.{ReplyOrMemory, LogEntry}
 use Rattle.dp_session_laws.specs.Journals.{kept_events}
 use Rattle.dp_serve.specs.declared.report.LinkReport.{LinkReport}
-use Rattle.dp_serve.specs.Links.{LinkState}
+use Rattle.dp_link_run.specs.Links.{LinkState}
 use Rattle.dp_serve.specs.Works.{LinkRun, IsRun}
 
 -- An event of which that came is of the connection: it is a Say or a Close that names it, or the

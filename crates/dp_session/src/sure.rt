@@ -1,13 +1,13 @@
 //! Sessions over a store that never fails.
 
-ghost use Rattle.std.specs.Prelude.{◌≡◌, None, IfOk, OnOk, OnErr};
-ghost use Rattle.dp_epochs.specs.Past.{quieted, sure_answer, sure_step};
+ghost use Rattle.std.specs.Prelude.{◌≡◌};
 
 use crate::session::Session;
-use dp_epochs::{Event, Reply};
-use dp_keeper::{Keeper, SureKeeper};
+use dp_epochs::{Answer, Event, Query, Reply};
+use dp_keeper::{Keeper, Rows, SureKeeper};
 use dp_machine::Machine;
-use std::alloc::AllocError;
+use dp_sure_session::SureSession;
+use std::alloc::{AllocError, Global};
 
 impl<K: Keeper> Session<K> {
     /// How often a put has failed. It takes no memory.
@@ -19,23 +19,21 @@ impl<K: Keeper> Session<K> {
     }
 }
 
-impl Session<SureKeeper> {
-    /// Serves an event as `step` does, if no fault can come.
-    ///
-    /// # Errors
-    ///
-    /// If memory runs out: nothing is kept, and the connection of a Close gets nothing more.
-    ///
-    /// The rule: docs/protocol.md, "The session".
-    pub fn step_surely(&mut self, event: &Event) -> Result<Reply, AllocError>
-        requires { self.old.first_fault ≡ None }
-        ensures reply { IfOk result (λ reply. reply ≡ sure_answer self.old event.now) }
-        ensures ok { OnOk result (self.new ≡ sure_step self.old event.now) }
-        ensures err { OnErr result (self.new ≡ quieted self.old event.now) }
-    {
+impl SureSession for Session<SureKeeper> {
+    ghost past = { λ session. session };
+
+    fn new_sure(alloc: Global) -> Result<Self, AllocError> {
+        Session::new(alloc, SureKeeper::new(Rows::new(alloc)))
+    }
+
+    fn step_surely(&mut self, event: &Event) -> Result<Reply, AllocError> {
         let _before = self.faults();
-        let result = self.step(event);
+        let result = Machine::step(self, event);
         let _after = self.faults();
         result
+    }
+
+    fn ask(&self, query: &Query) -> Result<Answer, AllocError> {
+        Machine::ask(self, query)
     }
 }

@@ -3,4 +3,3 @@ pub mod LawLemmas
 pub mod Moves
 pub mod LawWorlds
 pub mod LawForbidden
-pub mod CallLemmas

@@ -4,5 +4,4 @@ pub mod Report
 pub mod Due
 pub mod Invariant
 pub mod Moves
-pub mod Calls
 pub mod Headline

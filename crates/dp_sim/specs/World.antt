@@ -1,6 +1,6 @@
 -- The world of a schedule, and what its lines make of it.
 use Rattle.std.specs.Prelude.{ℕ, ◌+◌, ◌-◌, Bool}
-use Rattle.std.specs.Prelude.{Option, None, Some, List, [], ◌∷◌, ◌++◌, length, slice_set}
+use Rattle.std.specs.Prelude.{Option, List, [], ◌∷◌, ◌++◌, length, slice_set}
 use Rattle.std.specs.List.{fold}
 use Rattle.std.specs.Option.{option_map_or}
 use Rattle.dp_lists.specs.Numbered.{numbered}
@@ -15,24 +15,13 @@ use Rattle.dp_schedule.specs.declared.action.Action.TheVariants.{Join, Act, Show
 use Rattle.dp_schedule.specs.declared.report_line.ReportLine.{ReportLine}
 use Rattle.dp_schedule.specs.declared.report_line.ReportLine.TheVariants as report
 use Rattle.dp_sim.specs.declared.participant.LinkState.TheVariants.{Connected}
+use Rattle.dp_sure_session.specs.FirstPast.{first_past}
 use Rattle.dp_sim.specs.Exchanges.{Participant, Exchange, exchanged, exchange_line}
 
 -- the session's past, and its clients in the order of their joins, numbered from 1
 pub record World : Type 0 where
   pub past : Past
   pub participants : List Participant
-
--- the past of a session to which nothing has come, over a store that never fails
-abbrev pub first_past : Past
-first_past = record {
-  journal = [];
-  shut = [];
-  quiet = [];
-  first_fault = None;
-  known = Some [];
-  count = 0;
-  read_faults = 0;
-}
 
 -- the world before the first line
 abbrev pub first_world : World

@@ -1,13 +1,13 @@
-//! The world of a schedule: a session, its clients, and the messages on their way to it.
+//! What the world of a schedule is: a session, its clients, and the messages on their way to it.
+//! The laws of worlds, and the calls of one that is played.
 //!
 //! The rule: docs/protocol.md, "The world".
 #![tactic(auto)]
 
 mod laws;
 mod participant;
-mod reply_line;
-mod world;
+mod schedule_world;
 
 pub use laws::{forbidden_changes_nothing, headline, instructions_are_moves, worlds_stay_worlds};
-pub use participant::{LinkState, Participant};
-pub use world::World;
+pub use participant::LinkState;
+pub use schedule_world::ScheduleWorld;

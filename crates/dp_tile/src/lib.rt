@@ -9,7 +9,6 @@ mod laws;
 mod painter;
 mod palette;
 mod row;
-mod shared;
 mod slot;
 mod tile;
 

@@ -4,10 +4,10 @@ ghost use Rattle.std.specs.Prelude.{◌≡◌, ◌+◌, ◌≤◌, [], replicate
 ghost use Rattle.dp_tile.specs.Tiles.{tile_of, tiles_for};
 
 use crate::row::Row;
-use crate::shared::Shareable;
 use crate::slot::Slot;
 use crate::tile::Tile;
 use dp_blend::Pixel;
+use dp_shared::Shareable;
 use dp_steps::Steps;
 use std::alloc::{AllocError, Global};
 use std::sync::ledger::Ledger;

@@ -7,9 +7,9 @@ ghost use Rattle.dp_tile.specs.Tiles.{tile_of, tiles_for};
 
 use crate::painter::TilePainter;
 use crate::palette::Palette;
-use crate::shared::{Shareable, own, repeated};
 use crate::slot::Slot;
 use dp_blend::Pixel;
+use dp_shared::{Shareable, own, repeated};
 use dp_steps::Steps;
 use std::alloc::{AllocError, Global};
 use std::marker::Model;

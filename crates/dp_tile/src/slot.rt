@@ -9,9 +9,9 @@ ghost use Rattle.dp_tile.specs.Tiles.{IsOfColor, tile_of, tiles_for};
 
 use crate::painter::{TileChange, TilePainter};
 use crate::palette::Palette;
-use crate::shared::Shareable;
 use crate::tile::{Tile, color_of, solid_pixels};
 use dp_blend::{Pixel, Stretch};
+use dp_shared::Shareable;
 use dp_steps::Steps;
 use std::alloc::{AllocError, Global};
 use std::marker::Model;

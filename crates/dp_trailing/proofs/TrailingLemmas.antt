@@ -12,20 +12,20 @@ use Rattle.dp_board.specs.Strokes.{concerned, moved_by}
 use Rattle.dp_board.specs.Commands.{command_of}
 use Rattle.dp_board.specs.Replay.{replay}
 use Rattle.dp_board.specs.Table.{IsTableAfter, next_strokes, table_with, moved_in}
-use Rattle.dp_rollback.specs.declared.kept.KeptAct.{KeptAct}
-use Rattle.dp_rollback.specs.declared.kept.Mark.{Mark}
-use Rattle.dp_rollback.specs.Kept.{kept_of, drawn_command, drawn_among, marked}
-use Rattle.dp_rollback.specs.Kept.{commands_among}
-use Rattle.dp_rollback.specs.Laws.{Laws}
-use Rattle.dp_rollback.specs.Rollback.{drawn_first}
-use Rattle.dp_rollback.specs.Moves.{mark_by, mark_in, kept_in}
+use Rattle.dp_savepoints.specs.declared.kept.KeptAct.{KeptAct}
+use Rattle.dp_savepoints.specs.declared.kept.Mark.{Mark}
+use Rattle.dp_savepoints.specs.Kept.{kept_of, drawn_command, drawn_among, marked}
+use Rattle.dp_savepoints.specs.Kept.{commands_among}
+use Rattle.dp_savepoints.specs.Laws.{Laws}
+use Rattle.dp_savepoints.specs.Kept.{drawn_first}
+use Rattle.dp_savepoints.specs.Marks.{mark_by, mark_in, kept_in}
 use Rattle.dp_trailing.specs.Trailing.{Trailing, Trails, TrailsReach, IsHeldNext, marked_later}
 use Rattle.dp_trailing.specs.Trailing.{with_act, drawn_up_to}
-use Rattle.dp_rollback.proofs.HistoryLemmas.{length-kept_of, replay-kept_of, take-marked}
-use Rattle.dp_rollback.proofs.HistoryLemmas.{kept_of-unmoved, kept_of-moved, take-kept_of-moved}
-use Rattle.dp_rollback.proofs.HistoryLemmas.{take-kept_of-unmoved}
-use Rattle.dp_rollback.proofs.StandLemmas.{fold-drawn, kept-push, take-more}
-use Rattle.dp_rollback.proofs.DueLemmas.{length-command_of}
+use Rattle.dp_savepoints.proofs.HistoryLemmas.{length-kept_of, replay-kept_of, take-marked}
+use Rattle.dp_savepoints.proofs.HistoryLemmas.{kept_of-unmoved, kept_of-moved, take-kept_of-moved}
+use Rattle.dp_savepoints.proofs.HistoryLemmas.{take-kept_of-unmoved}
+use Rattle.dp_savepoints.proofs.KeptLemmas.{fold-drawn, kept-push, take-more}
+use Rattle.dp_savepoints.proofs.KeptLemmas.{length-command_of}
 
 -- the flags of a mark change from the Point of its group on alone
 later-marked : {Op : Type 0} → (mark : Mark) (base m : ℕ) (all : List (KeptAct Op))

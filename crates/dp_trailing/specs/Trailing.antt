@@ -6,11 +6,11 @@ use Rattle.std.specs.List.{fold}
 use Rattle.dp_board.specs.declared.act.UserAct.{UserAct}
 use Rattle.dp_board.specs.Strokes.{concerned}
 use Rattle.dp_board.specs.Table.{Table, IsTableAfter, oldest_in, next_strokes, table_with}
-use Rattle.dp_rollback.specs.declared.kept.KeptAct.{KeptAct}
-use Rattle.dp_rollback.specs.declared.kept.Mark.{Mark}
-use Rattle.dp_rollback.specs.Kept.{kept_of, drawn_among, marked}
-use Rattle.dp_rollback.specs.Rollback.{drawn_first}
-use Rattle.dp_rollback.specs.Moves.{mark_in, kept_in}
+use Rattle.dp_savepoints.specs.declared.kept.KeptAct.{KeptAct}
+use Rattle.dp_savepoints.specs.declared.kept.Mark.{Mark}
+use Rattle.dp_savepoints.specs.Kept.{kept_of, drawn_among, marked}
+use Rattle.dp_savepoints.specs.Kept.{drawn_first}
+use Rattle.dp_savepoints.specs.Marks.{mark_in, kept_in}
 
 -- a board, the strokes of all users, and the last acts, from the position `base` on
 pub record Trailing (B Op : Type 0) : Type 0 where

@@ -8,12 +8,12 @@ ghost use Rattle.std.specs.Vec.{vec_len, vec_capacity};
 ghost use Rattle.dp_board.specs.declared.act.UserAct.{UserAct as UserActOf};
 ghost use Rattle.dp_board.specs.Replay.{replay};
 ghost use Rattle.dp_board.specs.Table.{oldest_in};
-ghost use Rattle.dp_rollback.specs.Kept.{drawn_among, commands_among};
+ghost use Rattle.dp_savepoints.specs.Kept.{drawn_among, commands_among};
 ghost use Rattle.dp_trailing.specs.Trailing.{Trails, IsHeldNext, marked_later, with_act};
 ghost use Rattle.dp_trailing.specs.Trailing.{drawn_to_reach};
 
 use dp_board::{Board, StrokeTable, UserAct, tables_follow};
-use dp_rollback::{KeptAct, Mark, draw_act, is_draw, mark_all, mark_of, stroke_laws};
+use dp_savepoints::{KeptAct, Mark, draw_act, is_draw, mark_all, mark_of, stroke_laws};
 use dp_steps::Steps;
 use std::alloc::{AllocError, Global};
 use std::marker::Model;

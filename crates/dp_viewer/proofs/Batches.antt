@@ -15,9 +15,9 @@ use Rattle.dp_plain.specs.Board.{Board}
 use Rattle.dp_plain.specs.Commands.{draw}
 use Rattle.dp_recording.specs.declared.reader.Phase.{Phase}
 use Rattle.dp_recording.specs.Recordings.{HasReadOf}
-use Rattle.dp_rollback.specs.declared.kept.KeptAct.{KeptAct}
-use Rattle.dp_rollback.specs.Kept.{drawn_among}
-use Rattle.dp_rollback.proofs.StandLemmas.{fold-drawn}
+use Rattle.dp_savepoints.specs.declared.kept.KeptAct.{KeptAct}
+use Rattle.dp_savepoints.specs.Kept.{drawn_among}
+use Rattle.dp_savepoints.proofs.KeptLemmas.{fold-drawn}
 use Rattle.dp_trailing.specs.Trailing.{Trailing}
 use Rattle.dp_viewer.specs.declared.ahead.Ahead.{Ahead}
 use Rattle.dp_viewer.specs.Ahead.{EndsAfter, ShowsFirst, ShowsFirstOn, board_after, on_board}

@@ -7,7 +7,7 @@ ghost use Rattle.std.specs.Io.KnownBytes.{IsAtEnd};
 ghost use Rattle.dp_messages.specs.declared.message.Entry.{Entry as Item};
 ghost use Rattle.dp_plain.specs.Board.{Board};
 ghost use Rattle.dp_plain.specs.Commands.{draw};
-ghost use Rattle.dp_rollback.specs.Kept.{drawn_among};
+ghost use Rattle.dp_savepoints.specs.Kept.{drawn_among};
 ghost use Rattle.dp_viewer.specs.Ahead.{EndsAfter, EndsBatch, board_after, on_board};
 ghost use Rattle.dp_viewer.specs.Reading.{AreDue, EndsReading, FaultMatchesWay, ReadsToEnd};
 ghost use Rattle.dp_viewer.specs.Reading.{TrailsShown};
@@ -15,15 +15,17 @@ ghost use Rattle.dp_viewer.specs.Ways.{first_of, play_way};
 
 use crate::reading::{ShownBoard, begin_anew, reads_to_end, take_due};
 use crate::workers::WorkersBoard;
-use dp_canvas::{DeferredBoard, settle_half_full};
+use dp_batch::{SettlingPixels, settle_half_full};
 use dp_io::Source;
+use dp_layered::LayeredBoard;
 use dp_lines::RunEnd;
 use dp_messages::Entry;
 use dp_msg_draw::{Draw, TileContent};
 use dp_par::Workers;
+use dp_plain::LayerPixels;
 use dp_recording::RecordingReader;
 use dp_replay::act_of_entry;
-use dp_rollback::KeptAct;
+use dp_savepoints::KeptAct;
 use dp_steps::Steps;
 use dp_trailing::draw_kept;
 use dp_wire::Gate;
@@ -60,16 +62,16 @@ pub(crate) enum Batch {
 /// What is read: the entries of a recording, and the acts that are held of them. The board that
 /// trails them is elsewhere.
 #[derive(Drop)]
-pub(crate) struct Ahead {
+pub(crate) struct Ahead<P: LayerPixels> {
     pub reader: RecordingReader,
-    pub board: ShownBoard,
+    pub board: ShownBoard<P>,
     pub due: Option<u32>,
 }
 
 /// What is drawn: acts, and the board that they are drawn on.
 #[derive(Drop)]
-pub(crate) struct Behind {
-    pub board: DeferredBoard,
+pub(crate) struct Behind<P: LayerPixels> {
+    pub board: LayeredBoard<P>,
     pub ready: Vec<KeptAct<Draw>>,
     /// Whether the acts before these were drawn.
     pub drawn: bool,
@@ -85,15 +87,19 @@ pub(crate) struct Crew<'a, R, G> {
 
 /// A board of which a recording was read, and how reading it ended.
 #[derive(Drop)]
-pub(crate) struct Played<'a, R, G> {
-    pub shown: WorkersBoard<'a, R, G>,
+pub(crate) struct Played<'a, P: LayerPixels, R, G> {
+    pub shown: WorkersBoard<'a, P, R, G>,
     pub end: RunEnd,
 }
 
 /// Holds the act of the next entry. Whether the entry is a mark of a reset: the board begins anew
 /// then.
 #[inline(always)]
-fn hold(alloc: Global, board: &mut ShownBoard, entry: Entry) -> Result<bool, AllocError>
+fn hold<P: LayerPixels>(
+    alloc: Global,
+    board: &mut ShownBoard<P>,
+    entry: Entry,
+) -> Result<bool, AllocError>
     ensures { IfOk result (λ marked. (all : List Item) (on : Board)
         → TrailsShown (on_board on board.old) all
         → TrailsShown (on_board (board_after marked on board.new) board.new)
@@ -112,9 +118,9 @@ fn hold(alloc: Global, board: &mut ShownBoard, entry: Entry) -> Result<bool, All
 
 /// The same for the next entry, if it is one of those that are left to show, or of all.
 #[inline(always)]
-fn hold_due(
+fn hold_due<P: LayerPixels>(
     alloc: Global,
-    board: &mut ShownBoard,
+    board: &mut ShownBoard<P>,
     due: &mut Option<u32>,
     entry: Entry,
 ) -> Result<bool, AllocError>
@@ -152,7 +158,12 @@ fn weight(entry: &Entry) -> usize {
 }
 
 /// Reads a batch of `count` entries, and holds their acts.
-fn read_batch<I: Source>(alloc: Global, input: &mut I, ahead: &mut Ahead, count: usize) -> Batch
+fn read_batch<P: LayerPixels, I: Source>(
+    alloc: Global,
+    input: &mut I,
+    ahead: &mut Ahead<P>,
+    count: usize,
+) -> Batch
     ensures read { EndsBatch (I.left input.old) (I.left input.new) (I.faults input.old)
         (I.faults input.new) ahead.old ahead.new result }
     ensures later { I.faults input.old ≤ I.faults input.new }
@@ -178,9 +189,9 @@ fn read_batch<I: Source>(alloc: Global, input: &mut I, ahead: &mut Ahead, count:
 }
 
 /// Draws acts. From time to time workers paint what waits on layers on which much does.
-fn draw_settling<R: Threads + Sync, G: Gate, D: Ledger, T: Ledger>(
+fn draw_settling<P: SettlingPixels, R: Threads + Sync, G: Gate, D: Ledger, T: Ledger>(
     crew: &Crew<'_, R, G>,
-    board: &mut DeferredBoard,
+    board: &mut LayeredBoard<P>,
     acts: &[KeptAct<Draw>],
     draws: &mut Steps<D>,
     tiles: &mut Steps<T>,
@@ -197,7 +208,7 @@ fn draw_settling<R: Threads + Sync, G: Gate, D: Ledger, T: Ledger>(
     Ok(())
 }
 
-impl Behind {
+impl<P: SettlingPixels> Behind<P> {
     /// Draws the acts, unless memory runs out, and lets them go.
     fn draw<R: Threads + Sync, G: Gate, D: Ledger, T: Ledger>(
         &mut self,
@@ -218,7 +229,7 @@ impl Behind {
     fn go_on(
         &mut self,
         alloc: Global,
-        board: &mut ShownBoard,
+        board: &mut ShownBoard<P>,
         marked: bool,
     ) -> Result<(), AllocError>
         ensures { OnOk result ((on : Board) (entries : List Item)
@@ -239,7 +250,7 @@ impl Behind {
     fn turn(
         &mut self,
         alloc: Global,
-        board: &mut ShownBoard,
+        board: &mut ShownBoard<P>,
         marked: bool,
     ) -> Result<(), AllocError>
         ensures { OnOk result ((entries : List Item)
@@ -248,7 +259,7 @@ impl Behind {
             (fold draw self.new.board (drawn_among self.new.ready.items)) board.new) entries) }
     {
         if marked {
-            let held = board.put_board(DeferredBoard::new(alloc));
+            let held = board.put_board(LayeredBoard::new(alloc));
             drop(replace(&mut self.board, held));
             self.ready.clear();
         } else {
@@ -264,11 +275,19 @@ impl Behind {
 /// Draws acts, if there are any, and meanwhile reads a batch of `count` entries. Another thread
 /// draws them, if one can be made. One that does nothing is started before it: the system puts the
 /// first thread that it starts where this one runs, and these two would take turns.
-fn read_beside<'a, R: Threads + Sync, I: Source, G: Gate, D: Ledger + Send, T: Ledger + Send>(
+fn read_beside<
+    'a,
+    P: SettlingPixels + Send,
+    R: Threads + Sync,
+    I: Source,
+    G: Gate,
+    D: Ledger + Send,
+    T: Ledger + Send,
+>(
     crew: &'a Crew<'a, R, G>,
     input: &mut I,
-    ahead: &mut Ahead,
-    behind: &mut Behind,
+    ahead: &mut Ahead<P>,
+    behind: &mut Behind<P>,
     count: usize,
     draws: &mut Steps<D>,
     tiles: &mut Steps<T>,
@@ -297,11 +316,19 @@ fn read_beside<'a, R: Threads + Sync, I: Source, G: Gate, D: Ledger + Send, T: L
 }
 
 /// Reads a batch of `count` entries, while another thread, if one can be made, draws acts.
-fn draw_and_read<'a, R: Threads + Sync, I: Source, G: Gate, D: Ledger + Send, T: Ledger + Send>(
+fn draw_and_read<
+    'a,
+    P: SettlingPixels + Send,
+    R: Threads + Sync,
+    I: Source,
+    G: Gate,
+    D: Ledger + Send,
+    T: Ledger + Send,
+>(
     crew: &'a Crew<'a, R, G>,
     input: &mut I,
-    ahead: &mut Ahead,
-    behind: &mut Behind,
+    ahead: &mut Ahead<P>,
+    behind: &mut Behind<P>,
     count: usize,
     draws: &mut Steps<D>,
     tiles: &mut Steps<T>,
@@ -331,6 +358,7 @@ fn draw_and_read<'a, R: Threads + Sync, I: Source, G: Gate, D: Ledger + Send, T:
 /// Reads a recording as `read_recording` does, and draws its entries while more are read.
 pub(crate) fn read_ahead<
     'a,
+    P: SettlingPixels + Send,
     R: Threads + Sync,
     I: Source,
     G: Gate,
@@ -339,10 +367,10 @@ pub(crate) fn read_ahead<
 >(
     alloc: Global,
     input: &mut I,
-    shown: WorkersBoard<'a, R, G>,
+    shown: WorkersBoard<'a, P, R, G>,
     draws: &mut Steps<D>,
     tiles: &mut Steps<T>,
-) -> Played<'a, R, G>
+) -> Played<'a, P, R, G>
     requires { TrailsShown shown.board [] }
     ensures told { IfSome (I.left input.old) (λ bytes. EndsReading (play_way shown.entry.due) bytes
         (I.left input.new) result.shown.board result.end) }
@@ -359,7 +387,7 @@ pub(crate) fn read_ahead<
     } = shown;
     let crew = Crew { rt, alloc, workers };
     let reader = RecordingReader::new();
-    let blank = DeferredBoard::new(alloc);
+    let blank = LayeredBoard::new(alloc);
     let first = board.put_board(blank);
     let ready = Vec::new(alloc);
     let mut ahead = Ahead { reader, board, due };
@@ -401,12 +429,12 @@ fn end_after(end: RunEnd, drawn: bool) -> RunEnd
 }
 
 /// The board once nothing is read any more.
-fn put_back<'a, R, G>(
+fn put_back<'a, P: LayerPixels, R, G>(
     crew: Crew<'a, R, G>,
-    ahead: Ahead,
-    behind: Behind,
+    ahead: Ahead<P>,
+    behind: Behind<P>,
     end: RunEnd,
-) -> Played<'a, R, G>
+) -> Played<'a, P, R, G>
     ensures board { result.shown.board ≡ on_board behind.board ahead.board }
     ensures end { result.end ≡ end }
 {

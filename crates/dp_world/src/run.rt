@@ -9,7 +9,8 @@ use dp_io::{Sink, Source};
 use dp_line_machine::ScriptEnd;
 use dp_lines::{RunEnd, further_step};
 use dp_script::run_lines;
-use dp_shown::{ClientBoard, PictureEnd};
+use dp_shown::PictureEnd;
+use dp_sim::ScheduleWorld;
 use dp_steps::Steps;
 use dp_world_lines::WorldRun;
 use std::alloc::Global;
@@ -19,7 +20,7 @@ use std::sync::ledger::Ledger;
 const WORLD_LIMIT: usize = 1 << 26;
 
 /// Reads the lines of a schedule and does them one after the other. What a line prints is written
-/// before the next line is done. Its clients draw on boards of the type `B`, and what they draw is
+/// before the next line is done. They are done in a world of the type `W`, and what is drawn there is
 /// counted.
 ///
 /// # Errors
@@ -29,7 +30,7 @@ const WORLD_LIMIT: usize = 1 << 26;
 /// with `Memory` if memory ran out.
 ///
 /// The rule: docs/protocol.md, "The world".
-pub fn run_world<B: ClientBoard, I: Source, O: Sink, D: Ledger, T: Ledger>(
+pub fn run_world<W: ScheduleWorld, I: Source, O: Sink, D: Ledger, T: Ledger>(
     alloc: Global,
     input: &mut I,
     output: &mut O,
@@ -44,8 +45,8 @@ pub fn run_world<B: ClientBoard, I: Source, O: Sink, D: Ledger, T: Ledger>(
     ensures input_later { I.faults input.old ≤ I.faults input.new }
     ensures output_later { O.faults output.old ≤ O.faults output.new }
 {
-    further_step::<WorldRun<B>>();
-    let Ok(mut machine) = WorldRun::<B>::new(alloc) else {
+    further_step::<WorldRun<W>>();
+    let Ok(mut machine) = WorldRun::<W>::new(alloc) else {
         return RunEnd::Memory;
     };
     run_end(run_lines(

@@ -18,9 +18,9 @@ use Rattle.dp_world_lines.specs.declared.line_run.WorldRun.{WorldRun}
 use Rattle.dp_world_lines.specs.Draws.{DrawsFor}
 use Rattle.dp_world_lines.specs.Schedule.{AskFor, IsPossible, IsStep}
 
--- the world of a machine
-abbrev pub world_of : {B : Type 0} → WorldRun B → World
-world_of run = run.world
+-- the world of a machine, by what its world is seen as
+abbrev pub world_of : {W B : Type 0} → (W → World) → WorldRun W B → World
+world_of seen run = seen run.world
 
 -- why no action is had of a line: it asks for nothing that may be done in the world, or memory ran
 -- out

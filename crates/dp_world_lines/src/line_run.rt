@@ -24,35 +24,35 @@ use dp_lines::Line;
 use dp_printing::show;
 use dp_schedule::{Action, CanvasKind, ReportLine, one_action, read_action};
 use dp_showing::Shown;
-use dp_shown::{ClientBoard, PictureEnd};
-use dp_sim::World;
+use dp_shown::PictureEnd;
+use dp_sim::ScheduleWorld;
 use dp_steps::Steps;
 use std::alloc::{AllocError, Global};
 use std::sync::ledger::Ledger;
 
-/// The machine of a schedule: it does a line in its world.
+/// The machine of a schedule: it does a line in its world, whatever plays that.
 #[derive(Drop)]
-pub struct WorldRun<B: ClientBoard> {
+pub struct WorldRun<W: ScheduleWorld> {
     pub alloc: Global,
-    pub world: World<B>,
+    pub world: W,
 }
 
-impl<B: ClientBoard> dp_lines::StepRule for WorldRun<B> {
+impl<W: ScheduleWorld> dp_lines::StepRule for WorldRun<W> {
     ghost use Rattle.dp_world_lines.specs.Schedule.{IsStep};
 
     ghost is_step = { IsStep };
 }
 
-impl<B: ClientBoard, O: Sink, D: Ledger, T: Ledger> LineMachine<O, Steps<D>, Steps<T>>
-    for WorldRun<B> {
+impl<W: ScheduleWorld, O: Sink, D: Ledger, T: Ledger> LineMachine<O, Steps<D>, Steps<T>>
+    for WorldRun<W> {
     ghost use Rattle.dp_sim.specs.Invariant.{IsWorld};
     ghost use Rattle.dp_world_lines.specs.Progress.{HasDone, HasEnded, world_of};
 
     type End = PictureEnd;
 
-    ghost is_ready = { λ run. IsWorld run.world };
+    ghost is_ready = { λ run. IsWorld (W.seen run.world) };
 
-    ghost has_done = { HasDone world_of O.held O.faults };
+    ghost has_done = { HasDone (world_of W.seen) O.held O.faults };
 
     ghost has_ended = { HasEnded O.held O.faults };
 
@@ -72,22 +72,22 @@ impl<B: ClientBoard, O: Sink, D: Ledger, T: Ledger> LineMachine<O, Steps<D>, Ste
     }
 }
 
-impl<B: ClientBoard> WorldRun<B> {
+impl<W: ScheduleWorld> WorldRun<W> {
     /// A machine before the first line.
     pub fn new(alloc: Global) -> Result<Self, AllocError>
-        ensures first { IfOk result (λ run. run.world ≡ first_world) }
-        ensures world { IfOk result (λ run. IsWorld run.world) }
+        ensures first { IfOk result (λ run. W.seen run.world ≡ first_world) }
+        ensures world { IfOk result (λ run. IsWorld (W.seen run.world)) }
     {
-        let world = World::new(alloc)?;
+        let world = W::new(alloc)?;
         Ok(WorldRun { alloc, world })
     }
 
     /// What the line asks for. An error if it asks for nothing, or for what may not be done.
     fn action_of(&self, line: &Line) -> Result<Action, Undone<PictureEnd>>
         ensures asks { IfOk result (Parses line.now.bytes) }
-        ensures possible { IfOk result (IsPossible self.now.world) }
+        ensures possible { IfOk result (IsPossible (W.seen self.now.world)) }
         ensures allowed { IfOk result SaysNoControl }
-        ensures refused { IfErr result (IsWorldLineRefused line.now self.now.world) }
+        ensures refused { IfErr result (IsWorldLineRefused line.now (W.seen self.now.world)) }
     {
         one_action();
         let Ok(asked) = read_action(self.alloc, line.bytes.as_slice()) else {
@@ -101,7 +101,7 @@ impl<B: ClientBoard> WorldRun<B> {
 
     /// Whether the client is there that the action names, if it names one.
     fn may_do(&self, action: &Action) -> bool
-        ensures { (result ≡ true) ↔ IsPossible self.now.world action.now }
+        ensures { (result ≡ true) ↔ IsPossible (W.seen self.now.world) action.now }
     {
         match action {
             Action::Join { .. } => true,
@@ -117,17 +117,18 @@ impl<B: ClientBoard> WorldRun<B> {
         draws: &mut Steps<D>,
         tiles: &mut Steps<T>,
     ) -> Result<(), PictureEnd>
-        requires world { IsWorld self.old.world }
-        requires possible { IsPossible self.old.world action }
+        requires world { IsWorld (W.seen self.old.world) }
+        requires possible { IsPossible (W.seen self.old.world) action }
         requires allowed { SaysNoControl action }
-        ensures after { OnOk result (self.new.world ≡ after self.old.world action) }
-        ensures world { OnOk result (IsWorld self.new.world) }
+        ensures after { OnOk result (W.seen self.new.world ≡ after (W.seen self.old.world) action) }
+        ensures world { OnOk result (IsWorld (W.seen self.new.world)) }
         ensures written { OnOk result
-            (Appends (O.held output.old) (O.held output.new) (printed self.old.world action)) }
+            (Appends (O.held output.old) (O.held output.new)
+            (printed (W.seen self.old.world) action)) }
         ensures prefix { GrowsByPrefix (O.held output.old) (O.held output.new)
-            (printed self.old.world action) }
-        ensures counts { CountsFew reach (action_due self.old.world action) draws.old draws.new
-            tiles.old tiles.new }
+            (printed (W.seen self.old.world) action) }
+        ensures counts { CountsFew reach (action_due (W.seen self.old.world) action)
+            draws.old draws.new tiles.old tiles.new }
         ensures uncounted { IsErrOf result PictureEnd.Memory
             → O.faults output.new ≡ O.faults output.old }
         ensures cause { HasCause is_sink_fault (O.faults output.old) (O.faults output.new) result }
@@ -150,11 +151,11 @@ impl<B: ClientBoard> WorldRun<B> {
 
     /// Writes what is printed of the client of this number.
     fn show<O: Sink>(&self, client: u32, kind: CanvasKind, output: &mut O) -> Result<(), PictureEnd>
-        requires { IsSome (participant_of self.now.world client) }
+        requires { IsSome (participant_of (W.seen self.now.world) client) }
         ensures written { OnOk result (Appends (O.held output.old) (O.held output.new)
-            (printed self.now.world (Shows client kind))) }
+            (printed (W.seen self.now.world) (Shows client kind))) }
         ensures prefix { GrowsByPrefix (O.held output.old) (O.held output.new)
-            (printed self.now.world (Shows client kind)) }
+            (printed (W.seen self.now.world) (Shows client kind)) }
         ensures uncounted { IsErrOf result PictureEnd.Memory
             → O.faults output.new ≡ O.faults output.old }
         ensures cause { HasCause is_sink_fault (O.faults output.old) (O.faults output.new) result }

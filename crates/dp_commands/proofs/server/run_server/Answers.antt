@@ -11,7 +11,7 @@ serve-wires-requires-clause-sound g c κs within =
     (resumed_sound c.in-Ok.session _ _ _ c.in-Ok.ensures.session)
 
 pub returns-clause-ends : goal.returns-clause-ends
-returns-clause-ends g c = λ addr service s untouched.
+returns-clause-ends g c = λ s untouched.
     let same : length c.args.wires.items ≡ c.args.workers = omega (arith, c.args.wires.ok.0) in
     let served = c.serve-wires.result in
     inr (
@@ -36,7 +36,7 @@ returns-clause-keeper g c = λ other.
     absurd (other (omega (arith, c.args.wires.ok.0)))
 
 pub returns-in-Err-clause-ends : goal.returns-in-Err-clause-ends
-returns-in-Err-clause-ends g c = λ addr service s untouched.
+returns-in-Err-clause-ends g c = λ s untouched.
     let same : length c.args.wires.items ≡ c.args.workers = omega (arith, c.args.wires.ok.0) in
     let left = c.without-in-Err.ensures in
     let h = c.in-Err.ensures in

@@ -7,7 +7,7 @@ use Rattle.dp_drill.proofs.RoundKinds.{round-more}
 use Rattle.dp_drill.proofs.rounds.play_rounds.Goals as goal
 
 pub loop-preserved : goal.loop-preserved
-loop-preserved c =
+loop-preserved g c =
     let x = c.loop.x in
     let flow = c.loop.flow in
     let left = c.args.count - (c.loop.counter + 1) in

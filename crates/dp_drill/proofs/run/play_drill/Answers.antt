@@ -13,7 +13,7 @@ abbrev began : Flow → Flow
 began f = fold flow_after f first_actions
 
 pub history-requires : goal.history-requires
-history-requires c =
+history-requires g c =
     let same = drilled c.args.drill.seed c.args.drill.rounds _ _
     _ (c.in_ok-begin.ensures.ok ∙ ap began c.requires) c.in_ok-play_rounds.ensures.ok
     c.in_ok-send_all.ensures.ok in
@@ -21,7 +21,7 @@ history-requires c =
     (c.drills_need_no_clients.ensures.gets c.args.drill.seed c.args.drill.rounds)
 
 pub returns : goal.returns
-returns c =
+returns g c =
     let same = drilled c.args.drill.seed c.args.drill.rounds _ _
     _ (c.in_ok-begin.ensures.ok ∙ ap began c.requires) c.in_ok-play_rounds.ensures.ok
     c.in_ok-send_all.ensures.ok in

@@ -5,7 +5,7 @@ use Rattle.dp_hall.specs.Calls.{IsOf}
 use Rattle.dp_crew.specs.Runs.{most_links}
 use Rattle.dp_crew.proofs.Making.{made-of, made-length, ran-of, ran-same}
 use Rattle.dp_crew.proofs.CrewLemmas.{most-small}
-use Rattle.dp_serve.specs.Links.{link_seen}
+use Rattle.dp_link_run.specs.Links.{link_seen}
 use Rattle.dp_serve.specs.Works.{session_rules}
 use Rattle.dp_serve.proofs.jobs.run_all.Goals as goal
 

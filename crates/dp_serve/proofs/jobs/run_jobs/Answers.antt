@@ -5,9 +5,10 @@ use Rattle.std.proofs.Crossing.{sync}
 use Rattle.dp_crew.specs.Runs.{most_links}
 use Rattle.dp_crew.proofs.Sending.{number_sync}
 use Rattle.dp_crew.proofs.Making.{ran-at, ran-each}
-use Rattle.dp_serve.specs.Links.{link_seen}
+use Rattle.dp_link_run.specs.Links.{link_seen}
 use Rattle.dp_serve.specs.Works.{session_rules}
-use Rattle.dp_serve.proofs.Sending.{session_hall_sync, session_job_send}
+use Rattle.dp_link_run.proofs.Sending.{session_hall_sync}
+use Rattle.dp_serve.proofs.Sending.{session_job_send}
 use Rattle.dp_serve.proofs.jobs.run_jobs.Lts.{arg-0-2}
 use Rattle.dp_serve.proofs.jobs.run_jobs.Goals as goal
 

@@ -1,7 +1,7 @@
 use Rattle.std.proofs.Common.{[], refl}
 use Rattle.dp_crew.specs.Gathering.{all_reports}
 use Rattle.dp_crew.proofs.CrewLemmas.{gathers-nothing, reports-few}
-use Rattle.dp_serve.specs.Links.{link_seen}
+use Rattle.dp_link_run.specs.Links.{link_seen}
 use Rattle.dp_serve.specs.Works.{session_rules}
 use Rattle.dp_serve.proofs.jobs.run_workers.Goals as goal
 

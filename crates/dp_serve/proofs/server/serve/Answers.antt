@@ -1,5 +1,5 @@
 use Rattle.std.proofs.Common.{◌≡◌, ◌∙◌, ◌||◌}
-use Rattle.dp_serve.specs.Talking.{is_last_failed, is_last_store_fault}
+use Rattle.dp_link_run.specs.Talking.{is_last_failed, is_last_store_fault}
 use Rattle.dp_serve.specs.Serving.{Left}
 use Rattle.dp_serve.proofs.ClosingLemmas.{as-other, raised, with-flags}
 use Rattle.dp_serve.proofs.server.serve.Goals as goal

@@ -2,7 +2,7 @@ use Rattle.std.proofs.Common.{[], inr, arith}
 use Rattle.dp_epochs.specs.Past.{Step}
 use Rattle.dp_crew.proofs.SeatLemmas.{works-calls}
 use Rattle.dp_crew.proofs.WorkLemmas.{served-none}
-use Rattle.dp_serve.specs.Links.{link_seen}
+use Rattle.dp_link_run.specs.Links.{link_seen}
 use Rattle.dp_serve.specs.Works.{session_rules}
 use Rattle.dp_serve.proofs.worker.run_worker.Goals as goal
 

@@ -1,6 +1,6 @@
 use Rattle.dp_hall.specs.Calls.{IsOf}
 use Rattle.dp_crew.specs.Runs.{ServedSoFar}
-use Rattle.dp_serve.specs.Links.{link_seen}
+use Rattle.dp_link_run.specs.Links.{link_seen}
 use Rattle.dp_serve.specs.Works.{session_rules}
 use Rattle.dp_serve.proofs.worker.run_worker.Given as goal
 

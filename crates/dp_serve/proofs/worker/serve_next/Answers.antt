@@ -3,7 +3,7 @@ use Rattle.dp_epochs.specs.Past.{Step}
 use Rattle.dp_crew.proofs.SeatLemmas.{seen-legal}
 use Rattle.dp_crew.proofs.WorkLemmas.{served-last, served-more}
 use Rattle.dp_serve.specs.declared.report.LinkReport.{LinkReport}
-use Rattle.dp_serve.specs.Links.{link_seen}
+use Rattle.dp_link_run.specs.Links.{link_seen}
 use Rattle.dp_serve.specs.Works.{session_rules}
 use Rattle.dp_serve.proofs.LinkLemmas.{session-goes-on}
 use Rattle.dp_serve.proofs.worker.serve_next.Goals as goal

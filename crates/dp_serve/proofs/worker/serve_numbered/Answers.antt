@@ -1,4 +1,4 @@
-use Rattle.dp_serve.specs.Links.{link_seen}
+use Rattle.dp_link_run.specs.Links.{link_seen}
 use Rattle.dp_serve.proofs.LinkLemmas.{session-serves}
 use Rattle.dp_serve.proofs.worker.serve_numbered.Goals as goal
 

@@ -1,7 +1,7 @@
 use Rattle.std.proofs.Common.{◌+◌, ap, arith, drop, length, length-append, true}
 use Rattle.dp_board.specs.Commands.{command_of}
-use Rattle.dp_rollback.specs.Kept.{commands_among}
-use Rattle.dp_rollback.proofs.DueLemmas.{commands_among-at}
+use Rattle.dp_savepoints.specs.Kept.{commands_among}
+use Rattle.dp_savepoints.proofs.KeptLemmas.{commands_among-at}
 use Rattle.dp_trailing.proofs.TrailingLemmas.{board-next}
 use Rattle.dp_trailing.proofs.trailing.draw_kept.Goals as goal
 

@@ -1,6 +1,6 @@
 use Rattle.std.proofs.Common.{◌≡◌, ◌+◌, ◌≤◌, length, take, drop}
 use Rattle.std.specs.List.{fold}
-use Rattle.dp_rollback.specs.Kept.{drawn_among, commands_among}
+use Rattle.dp_savepoints.specs.Kept.{drawn_among, commands_among}
 use Rattle.dp_trailing.proofs.trailing.draw_kept.Given as goal
 
 -- the acts so far are drawn

@@ -1,7 +1,7 @@
 use Rattle.std.proofs.Common.{◌≡◌, ◌-◌, ◌≤◌, length, drop}
 use Rattle.std.specs.List.{fold}
 use Rattle.dp_plain.specs.Commands.{draw}
-use Rattle.dp_rollback.specs.Kept.{drawn_among}
+use Rattle.dp_savepoints.specs.Kept.{drawn_among}
 use Rattle.dp_viewer.proofs.ahead.draw_settling.Given as goal
 
 -- with the acts that are left it is the board after all

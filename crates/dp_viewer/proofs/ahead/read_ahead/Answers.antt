@@ -1,7 +1,7 @@
 use Rattle.std.proofs.Common.{◌≡◌, ◌∙◌, Bool, [], refl, subst, sym}
 use Rattle.std.specs.List.{fold}
 use Rattle.dp_plain.specs.Commands.{draw}
-use Rattle.dp_rollback.specs.Kept.{drawn_among}
+use Rattle.dp_savepoints.specs.Kept.{drawn_among}
 use Rattle.dp_lines.specs.declared.run_end.RunEnd.{RunEnd}
 use Rattle.dp_viewer.specs.Ahead.{EndsAfter}
 use Rattle.dp_viewer.specs.Reading.{FaultMatchesWay, ReadsToEnd}

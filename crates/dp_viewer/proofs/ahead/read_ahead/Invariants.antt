@@ -2,7 +2,7 @@ use Rattle.std.proofs.Common.{◌≡◌}
 use Rattle.std.specs.List.{fold}
 use Rattle.dp_plain.specs.Commands.{draw}
 use Rattle.dp_recording.specs.Recordings.{GoesOn, measure_of}
-use Rattle.dp_rollback.specs.Kept.{drawn_among}
+use Rattle.dp_savepoints.specs.Kept.{drawn_among}
 use Rattle.dp_viewer.specs.Ahead.{ShowsFirstOn}
 use Rattle.dp_viewer.proofs.ahead.read_ahead.Given as goal
 

@@ -2,7 +2,7 @@ use Rattle.std.proofs.Common.{◌≡◌, ◌∙◌, [], ap, arith, sym}
 use Rattle.std.proofs.lemmas.List.{nil_from_length}
 use Rattle.std.specs.List.{fold}
 use Rattle.dp_plain.specs.Commands.{draw}
-use Rattle.dp_rollback.specs.Kept.{drawn_among}
+use Rattle.dp_savepoints.specs.Kept.{drawn_among}
 use Rattle.dp_viewer.proofs.ahead.read_beside.Goals as goal
 
 pub returns-then-is_empty-clause-drawn : goal.returns-then-is_empty-clause-drawn

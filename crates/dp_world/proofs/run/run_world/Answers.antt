@@ -12,7 +12,7 @@ returns-in_default-clause-leaves g c =
 
 pub run_lines-requires-clause-first : goal.run_lines-requires-clause-first
 run_lines-requires-clause-first g c =
-    nothing_done world_of g.O.Sink.held g.O.Sink.faults
+    nothing_done (world_of g.W.ScheduleWorld.seen) g.O.Sink.held g.O.Sink.faults
     (moment c.in-Ok.machine c.args.output.now c.args.draws.now c.args.tiles.now)
     c.in-Ok.ensures.first
 
@@ -22,7 +22,7 @@ returns-clause-leaves g c =
     let now = moment c.run_lines.new.machine c.run_lines.new.output c.run_lines.new.draws
     c.run_lines.new.tiles in
     rw c.run_end.ensures
-    (leaves_of world_of g.O.Sink.held g.O.Sink.faults
+    (leaves_of (world_of g.W.ScheduleWorld.seen) g.O.Sink.held g.O.Sink.faults
     c.further_step.ensures.more (g.I.Source.left c.args.input.now)
     (g.I.Source.left c.run_lines.new.input) start now c.run_lines.result
     c.run_lines.ensures.leaves c.run_lines.ensures.took)
@@ -33,7 +33,7 @@ returns-clause-fault g c =
     let now = moment c.run_lines.new.machine c.run_lines.new.output c.run_lines.new.draws
     c.run_lines.new.tiles in
     rw c.run_end.ensures
-    (fault_matches_of world_of g.O.Sink.held g.O.Sink.faults
+    (fault_matches_of (world_of g.W.ScheduleWorld.seen) g.O.Sink.held g.O.Sink.faults
     (g.I.Source.left c.args.input.now) (g.I.Source.left c.run_lines.new.input) start now
     (g.I.Source.faults c.args.input.now) (g.I.Source.faults c.run_lines.new.input)
     c.run_lines.result c.run_lines.ensures.leaves c.run_lines.ensures.fault)
@@ -43,6 +43,6 @@ returns-clause-output_later g c =
     let start = moment c.in-Ok.machine c.args.output.now c.args.draws.now c.args.tiles.now in
     let now = moment c.run_lines.new.machine c.run_lines.new.output c.run_lines.new.draws
     c.run_lines.new.tiles in
-    later_of world_of g.O.Sink.held g.O.Sink.faults
+    later_of (world_of g.W.ScheduleWorld.seen) g.O.Sink.held g.O.Sink.faults
     (g.I.Source.left c.args.input.now) (g.I.Source.left c.run_lines.new.input) start now
     c.run_lines.result c.run_lines.ensures.leaves

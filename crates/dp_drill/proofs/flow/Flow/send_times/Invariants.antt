@@ -7,7 +7,7 @@ use Rattle.dp_drill.proofs.flow.Flow.send_times.Given as goal
 
 -- it has sent as often as was counted
 abbrev pub invariant-loop : goal.invariant-loop
-invariant-loop l = record {
+invariant-loop g l = record {
   flow : l.self ≡ fold flow_after l.initial.self (replicate l.counter (Act l.client Up));
   sure : l.self.past.first_fault ≡ None;
 }

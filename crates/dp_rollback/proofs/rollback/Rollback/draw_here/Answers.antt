@@ -10,10 +10,13 @@ use Rattle.std.specs.Option.{option_to_list}
 use Rattle.std.specs.Vec.{vec_len}
 use Rattle.dp_board.specs.Laws.{depth_in}
 use Rattle.dp_board.specs.Strokes.{last_few}
-use Rattle.dp_rollback.specs.Rollback.{KeepsReach, points_of}
-use Rattle.dp_rollback.specs.Moves.{next_here, kept_in, save_of, saves_after}
+use Rattle.dp_rollback.specs.Rollback.{KeepsReach}
+use Rattle.dp_savepoints.specs.Saves.{points_of}
+use Rattle.dp_rollback.specs.Moves.{next_here, saves_after}
+use Rattle.dp_savepoints.specs.Marks.{kept_in}
+use Rattle.dp_savepoints.specs.Saves.{save_of}
 use Rattle.dp_rollback.proofs.ReadyLemmas.{IsNext-here, put-here}
-use Rattle.dp_rollback.proofs.RunLemmas.{CountsFew-later, CountsFew-none}
+use Rattle.dp_savepoints.proofs.RunLemmas.{CountsFew-later, CountsFew-none}
 use Rattle.dp_rollback.proofs.StandLemmas.{KeepsReach-next, depth-next}
 use Rattle.dp_rollback.proofs.rollback.Rollback.draw_here.Goals as goal
 

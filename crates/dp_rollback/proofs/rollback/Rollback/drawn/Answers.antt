@@ -1,5 +1,6 @@
 use Rattle.std.proofs.Common.{◌∙◌, ap, refl, subst, sym}
-use Rattle.dp_rollback.specs.Moves.{IsDrawnFor, save_of, saves_after}
+use Rattle.dp_rollback.specs.Moves.{IsDrawnFor, saves_after}
+use Rattle.dp_savepoints.specs.Saves.{save_of}
 use Rattle.dp_rollback.proofs.RunLemmas.{saves-made}
 use Rattle.dp_rollback.proofs.rollback.Rollback.drawn.Goals as goal
 use Rattle.dp_rollback.proofs.rollback.Rollback.drawn.Goals.{in-None+in_ok-drawn_last-in-None}

@@ -3,8 +3,9 @@ use Rattle.std.specs.Option.{ForSome}
 use Rattle.dp_board.specs.Counts.{CountsFew}
 use Rattle.dp_board.specs.Strokes.{is_eligible}
 use Rattle.dp_board.specs.Table.{oldest_in}
-use Rattle.dp_rollback.specs.Moves.{due_in, mark_in}
-use Rattle.dp_rollback.proofs.RunLemmas.{for-some}
+use Rattle.dp_rollback.specs.Moves.{due_in}
+use Rattle.dp_savepoints.specs.Marks.{mark_in}
+use Rattle.dp_savepoints.proofs.RunLemmas.{for-some}
 use Rattle.dp_rollback.proofs.rollback.Rollback.made.Goals as goal
 
 pub drawn-requires-clause-among : goal.drawn-requires-clause-among

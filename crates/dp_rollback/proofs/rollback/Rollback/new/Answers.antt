@@ -2,8 +2,8 @@ use Rattle.std.proofs.Common.{[], ap, ◌∙◌, arith, refl, min, ◌≡◌, �
 use Rattle.std.proofs.Common.{length}
 use Rattle.std.specs.List.{fold, All}
 use Rattle.std.proofs.lemmas.List.Elements.{All-nil}
-use Rattle.dp_rollback.specs.Rollback.{points_of}
-use Rattle.dp_rollback.proofs.RunLemmas.{no-some}
+use Rattle.dp_savepoints.specs.Saves.{points_of}
+use Rattle.dp_savepoints.proofs.RunLemmas.{no-some}
 use Rattle.dp_rollback.proofs.StandLemmas.{StandsFor-new}
 use Rattle.dp_rollback.proofs.rollback.Rollback.new.Goals as goal
 

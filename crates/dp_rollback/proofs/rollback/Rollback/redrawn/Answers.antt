@@ -7,9 +7,10 @@ use Rattle.std.specs.List.Sorted.{IsNonDecreasing}
 use Rattle.std.specs.Vec.{vec_len}
 use Rattle.dp_board.specs.Strokes.{is_among}
 use Rattle.dp_board.specs.Table.{oldest_in}
-use Rattle.dp_rollback.specs.Rollback.{points_of}
-use Rattle.dp_rollback.proofs.RunLemmas.{slice-from, IsRun-begins, IsRedrawn-run, CountsFew-from}
-use Rattle.dp_rollback.proofs.RunLemmas.{reach-within, CountsFew-none}
+use Rattle.dp_savepoints.specs.Saves.{points_of}
+use Rattle.dp_savepoints.proofs.RunLemmas.{slice-from, IsRun-begins}
+use Rattle.dp_rollback.proofs.RunLemmas.{IsRedrawn-run, CountsFew-from}
+use Rattle.dp_savepoints.proofs.RunLemmas.{reach-within, CountsFew-none}
 use Rattle.dp_rollback.proofs.rollback.Rollback.redrawn.Goals as goal
 
 pub overflow_sub-kept : goal.overflow_sub-kept

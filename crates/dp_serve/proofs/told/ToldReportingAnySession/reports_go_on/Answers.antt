@@ -1,4 +1,4 @@
-use Rattle.dp_serve.specs.Links.{link_seen}
+use Rattle.dp_link_run.specs.Links.{link_seen}
 use Rattle.dp_serve.proofs.LinkLemmas.{session-goes-on}
 use Rattle.dp_serve.proofs.told.ToldReportingAnySession.reports_go_on.Goals as goal
 

@@ -1,5 +1,5 @@
 use Rattle.std.proofs.Common.{◌≡◌, ◌-◌, ap, arith, length}
-use Rattle.dp_rollback.specs.Kept.{commands_among}
+use Rattle.dp_savepoints.specs.Kept.{commands_among}
 use Rattle.dp_trailing.proofs.TrailingLemmas.{length-drawn_up_to}
 use Rattle.dp_trailing.proofs.trailing.TrailingBoard.draw_to_reach.Goals as goal
 

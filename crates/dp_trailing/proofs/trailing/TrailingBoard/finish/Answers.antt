@@ -1,6 +1,6 @@
 use Rattle.std.proofs.Common.{◌∙◌, ap}
 use Rattle.std.specs.List.{fold}
-use Rattle.dp_rollback.specs.Kept.{drawn_among}
+use Rattle.dp_savepoints.specs.Kept.{drawn_among}
 use Rattle.dp_trailing.proofs.TrailingLemmas.{Trails-replay}
 use Rattle.dp_trailing.proofs.trailing.TrailingBoard.finish.Goals as goal
 

@@ -1,7 +1,7 @@
 use Rattle.std.proofs.Common.{◌+◌, ◌≤◌, [], ◌∷◌, ◌++◌, length, subst, sym}
 use Rattle.std.specs.Prelude.{Result, Ok, Err, OnOk}
 use Rattle.std.proofs.lemmas.Result.{on_ok_weaker}
-use Rattle.dp_rollback.specs.Kept.{commands_among}
+use Rattle.dp_savepoints.specs.Kept.{commands_among}
 use Rattle.dp_trailing.specs.Trailing.{Trails}
 use Rattle.dp_trailing.proofs.TrailingLemmas.{Trails-with_act, few-with_act, held-apart}
 use Rattle.dp_trailing.proofs.trailing.TrailingBoard.hold.Goals as goal

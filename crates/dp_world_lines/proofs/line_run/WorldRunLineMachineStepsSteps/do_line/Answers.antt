@@ -9,7 +9,7 @@ use Rattle.dp_world_lines.proofs.line_run.WorldRunLineMachineStepsSteps.do_line.
 pub returns-in_err-action-clause-refused : goal.returns-in_err-action-clause-refused
 returns-in_err-action-clause-refused g c =
     let p = err_from_is_err_and c.from_residual.result c.from_residual.ensures.1 in
-    rw (p.1, p.2) (refused_by c.one_action.ensures.one world_of
+    rw (p.1, p.2) (refused_by c.one_action.ensures.one (world_of g.W.ScheduleWorld.seen)
     g.O.Sink.held g.O.Sink.faults
     (moment c.args.self.now c.args.output.now c.args.draws.now c.args.tiles.now)
     c.args.line.now c.in_err-action.field-0.0 c.in_err-action.ensures.refused)
@@ -17,28 +17,28 @@ returns-in_err-action-clause-refused g c =
 pub returns-in_err-action-clause-kept : goal.returns-in_err-action-clause-kept
 returns-in_err-action-clause-kept g c =
     let p = err_from_is_err_and c.from_residual.result c.from_residual.ensures.1 in
-    rw (p.1, p.2) (kept_by world_of g.O.Sink.held g.O.Sink.faults
+    rw (p.1, p.2) (kept_by (world_of g.W.ScheduleWorld.seen) g.O.Sink.held g.O.Sink.faults
     (moment c.args.self.now c.args.output.now c.args.draws.now c.args.tiles.now)
     c.in_err-action.field-0.0)
 
 pub returns-in_err-action-clause-ended : goal.returns-in_err-action-clause-ended
 returns-in_err-action-clause-ended g c =
     let p = err_from_is_err_and c.from_residual.result c.from_residual.ensures.1 in
-    rw (p.1, p.2) (ran_out_by world_of g.O.Sink.held g.O.Sink.faults
+    rw (p.1, p.2) (ran_out_by (world_of g.W.ScheduleWorld.seen) g.O.Sink.held g.O.Sink.faults
     (moment c.args.self.now c.args.output.now c.args.draws.now c.args.tiles.now)
     c.args.line.now c.in_err-action.field-0.0 c.in_err-action.ensures.refused)
 
 pub returns-in-Ok-clause-step : goal.returns-in-Ok-clause-step
 returns-in-Ok-clause-step g c = λ start done has.
     let e = c.in_ok-action.ensures in
-    is_step world_of g.O.Sink.held g.O.Sink.faults start
+    is_step (world_of g.W.ScheduleWorld.seen) g.O.Sink.held g.O.Sink.faults start
     (moment c.args.self.now c.args.output.now c.args.draws.now c.args.tiles.now)
     done c.args.line.now c.in_ok-action.action e.asks e.possible has
 
 pub returns-in-Ok-clause-done : goal.returns-in-Ok-clause-done
 returns-in-Ok-clause-done g c = λ start done has.
     let e = c.in_ok-action.ensures in
-    done_further world_of g.O.Sink.held g.O.Sink.faults start
+    done_further (world_of g.W.ScheduleWorld.seen) g.O.Sink.held g.O.Sink.faults start
     (moment c.args.self.now c.args.output.now c.args.draws.now c.args.tiles.now)
     (moment c.do_action.new.self c.do_action.new.output c.do_action.new.draws
     c.do_action.new.tiles)
@@ -49,7 +49,7 @@ returns-in-Ok-clause-done g c = λ start done has.
 pub returns-in-Err-clause-ended : goal.returns-in-Err-clause-ended
 returns-in-Err-clause-ended g c = λ start done has.
     let e = c.in_ok-action.ensures in
-    ended_by world_of g.O.Sink.held g.O.Sink.faults start
+    ended_by (world_of g.W.ScheduleWorld.seen) g.O.Sink.held g.O.Sink.faults start
     (moment c.args.self.now c.args.output.now c.args.draws.now c.args.tiles.now)
     (moment c.do_action.new.self c.do_action.new.output c.do_action.new.draws
     c.do_action.new.tiles)
