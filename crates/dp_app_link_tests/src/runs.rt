@@ -1,4 +1,5 @@
-//! Runs of the program on given wires, with new counters, a new store, and a gate that holds nobody.
+//! Runs of the program on given wires, with new counters, a new store, and a gate that holds
+//! nobody.
 
 ghost use Rattle.std.specs.Prelude.{◌≡◌, ◌<◌};
 

@@ -1,5 +1,5 @@
-//! The commands that need wires: what they leave, and running them. The board that a client draws on
-//! is a parameter.
+//! The commands that need wires: what they leave, and running them. The board that a client draws
+//! on is a parameter.
 #![tactic(auto)]
 
 mod joining;

@@ -23,9 +23,9 @@ pub struct StdStreams {
     pub diag: StdSink<Stderr>,
 }
 
-/// What a machine gives the program: the words after its name, its streams, the wires that the words
-/// want, and the store. Its rows are those of the file that the words name for a server, if the wires
-/// are there.
+/// What a machine gives the program: the words after its name, its streams, the wires that the
+/// words want, and the store. Its rows are those of the file that the words name for a server, if
+/// the wires are there.
 pub struct Given<'a> {
     pub words: Vec<String>,
     pub streams: StdStreams,
@@ -33,8 +33,8 @@ pub struct Given<'a> {
     pub store: Store,
 }
 
-/// The words after the program's name, the wires that they want, and the file that they name, if the
-/// wires are there.
+/// The words after the program's name, the wires that they want, and the file that they name, if
+/// the wires are there.
 struct Asked<'a> {
     words: Vec<String>,
     wires: Vec<Socket<'a>>,
@@ -46,8 +46,8 @@ impl<'a> Given<'a> {
     ///
     /// # Errors
     ///
-    /// The program's status, if memory ran out or the store can't be opened. Standard error then has
-    /// the reason.
+    /// The program's status, if memory ran out or the store can't be opened. Standard error then
+    /// has the reason.
     pub fn open(rt: &'a HostRuntime) -> Result<Given<'a>, u8> {
         match read_asked(rt) {
             Ok(asked) => with_store(rt, asked),
