@@ -61,7 +61,7 @@ fn counted<
     requires draws { (draws.name ≡ D.name) × (draws.parts ≡ D.parts) × (0 < draws.parts) }
     requires tiles { (tiles.name ≡ T.name) × (tiles.parts ≡ T.parts) × (0 < tiles.parts) }
 {
-    let (status, keeper) = drawpile(
+    let (status, wires, keeper) = drawpile(
         rt,
         alloc,
         words,
@@ -74,7 +74,8 @@ fn counted<
         &mut Steps::<D>::new(draws),
         &mut Steps::<T>::new(tiles),
     )
-    .into_status();
+    .into_parts();
+    drop(wires);
     drop(keeper);
     status
 }
