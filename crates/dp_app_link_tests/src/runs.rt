@@ -44,12 +44,7 @@ pub(crate) fn status_of<R: Threads + Wait + Sync, W: Wire + Send + Drop>(
 }
 
 /// Runs the program with counters over these blanks.
-fn counted<
-    R: Threads + Wait + Sync,
-    W: Wire + Send + Drop,
-    D: Ledger + Send,
-    T: Ledger + Send,
->(
+fn counted<R: Threads + Wait + Sync, W: Wire + Send + Drop, D: Ledger + Send, T: Ledger + Send>(
     rt: &R,
     alloc: Global,
     words: &[String],
