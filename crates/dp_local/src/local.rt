@@ -6,7 +6,6 @@ ghost use Rattle.dp_line_machine.specs.Counters.{counters};
 ghost use Rattle.dp_local.specs.Runs.{run_of};
 
 use crate::host::Host;
-use dp_batch::{BatchBoard, SettlingPixels};
 use dp_drill::{Drill, run_drill};
 use dp_io::{Sink, Source};
 use dp_lines::RunEnd;
@@ -21,13 +20,11 @@ use dp_world::run_world;
 use std::sync::ledger::Ledger;
 use std::thread::Threads;
 
-/// Runs a command on the input and the output alone. A schedule is done in a world `W`. A drill has
-/// a session `S` and boards `B`, and a picture's layers have pixels `P`.
+/// Runs a command on the input and the output alone. A schedule is done in a world `W`, and a drill
+/// has a session `S`.
 pub fn run_local<
     W: ScheduleWorld,
     S: SureSession,
-    B: BatchBoard,
-    P: SettlingPixels + Send + Sync,
     R: Threads + Sync,
     I: Source,
     O: Sink,
@@ -52,12 +49,12 @@ pub fn run_local<
 {
     let Host { rt, alloc, gate } = host;
     match command {
-        LocalCommand::Replay => run_replay::<P, I, O, D, T>(alloc, input, output, draws, tiles),
+        LocalCommand::Replay => run_replay(alloc, input, output, draws, tiles),
         LocalCommand::World => run_world::<W, I, O, D, T>(alloc, input, output, draws, tiles),
         LocalCommand::Play { at, workers } => {
             let (at, workers) = (*at, *workers);
             let playing = Playing { at, workers, gate };
-            run_play::<P, R, I, O, G, D, T>(rt, alloc, input, output, playing, draws, tiles)
+            run_play(rt, alloc, input, output, playing, draws, tiles)
         }
         LocalCommand::Drill {
             seed,
@@ -72,7 +69,7 @@ pub fn run_local<
                 count: *workers,
                 gate,
             };
-            run_drill::<S, B, R, O, G, D, T>(rt, alloc, drill, &workers, output, draws, tiles)
+            run_drill::<S, R, O, G, D, T>(rt, alloc, drill, &workers, output, draws, tiles)
         }
     }
 }
