@@ -9,7 +9,7 @@ ghost use Rattle.dp_commands.specs.Commands.{HasWires};
 ghost use Rattle.dp_commands.specs.Effects.{effects, kept, stores, streams, wire_seen};
 ghost use Rattle.dp_app.specs.Kinds.{EndsCommand, EndsWords};
 
-use dp_canvas::{Canvas, DeferredPixels};
+use dp_canvas::Canvas;
 use dp_commands::{Ran, Resources, run_link, run_server};
 use dp_endings::Ending;
 use dp_io::{Sink, Source};
@@ -105,18 +105,9 @@ fn run_command<
 {
     match command {
         CommandLine::Local(command) => {
-            let end = run_local::<
-                CanvasWorld,
-                SureEvents,
-                Canvas,
-                DeferredPixels,
-                R,
-                I,
-                O,
-                G,
-                D,
-                T,
-            >(host, command, input, output, draws, tiles);
+            let end = run_local::<CanvasWorld, SureEvents, R, I, O, G, D, T>(
+                host, command, input, output, draws, tiles,
+            );
             Ran::without(host.alloc, Ending::Run(end), resources)
         }
         CommandLine::Join { addr: _, name } => run_link::<Canvas, I, O, W, K, D, T>(
