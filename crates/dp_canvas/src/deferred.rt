@@ -1,6 +1,7 @@
 //! The board on which `replay` and `play` draw: small fills and dabs wait until tiles are read.
 
-use dp_batch::SettlingPixels;
+ghost use Rattle.std.specs.Prelude.{◌≡◌, ◌+◌, ◌≤◌};
+
 use dp_blend::Pixel;
 use dp_layered::LayeredBoard;
 use dp_layers::Share;
@@ -32,6 +33,31 @@ impl Model for DeferredPixels {
     ghost Value = { LayerOf };
 
     ghost view = { λ d. d.layer };
+}
+
+impl DeferredPixels {
+    /// Whether half as much waits as may wait.
+    pub(crate) fn is_half_full(&self) -> bool {
+        self.layer.is_half_full()
+    }
+
+    /// Paints all that waits, by workers.
+    ///
+    /// # Errors
+    ///
+    /// The pixels are the same, and tiles that were made are counted.
+    pub(crate) fn settle_by<R: Threads + Sync, G: Gate, T: Ledger>(
+        &mut self,
+        rt: &R,
+        workers: &Workers<'_, G>,
+        tiles: &mut Steps<T>,
+    ) -> Result<(), AllocError>
+        ensures same { self.new ≡ self.old }
+        ensures tiles_rise { tiles.old ≤ tiles.new }
+        ensures few_tiles { tiles.new ≤ tiles.old + 4096 }
+    {
+        self.layer.settle_by(rt, workers, tiles)
+    }
 }
 
 impl Share for DeferredPixels {
@@ -115,19 +141,4 @@ impl LayerPixels for DeferredPixels {
     }
 
     fn laws() {}
-}
-
-impl SettlingPixels for DeferredPixels {
-    fn is_half_full(&self) -> bool {
-        self.layer.is_half_full()
-    }
-
-    fn settle_by<R: Threads + Sync, G: Gate, T: Ledger>(
-        &mut self,
-        rt: &R,
-        workers: &Workers<'_, G>,
-        tiles: &mut Steps<T>,
-    ) -> Result<(), AllocError> {
-        self.layer.settle_by(rt, workers, tiles)
-    }
 }

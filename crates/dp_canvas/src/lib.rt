@@ -5,10 +5,11 @@ mod batch;
 mod canvas;
 mod crossing;
 mod deferred;
-mod painted;
 mod picture;
+mod settle;
 mod tiled;
 
 pub use canvas::Canvas;
 pub use crossing::canvases_cross_threads;
 pub use deferred::{DeferredBoard, DeferredPixels};
+pub use settle::settle_half_full;

@@ -8,8 +8,8 @@ ghost use Rattle.dp_plain.specs.Board.{empty_board};
 ghost use Rattle.dp_plain.specs.Commands.{draw_all};
 ghost use Rattle.dp_replay.specs.Replay.{replay, undo_depth, user_act_of};
 
-use dp_batch::BatchBoard;
 use dp_board::{Act, UserAct, drawn_flags, each_act_has_a_flag};
+use dp_canvas::Canvas;
 use dp_messages::Entry;
 use dp_msg_draw::Draw;
 use dp_par::Workers;
@@ -25,42 +25,41 @@ use std::thread::Threads;
 /// # Errors
 ///
 /// Some of them were drawn, each once, and their tiles are counted.
-pub(crate) fn paint_history<B: BatchBoard, R: Threads + Sync, G: Gate, D: Ledger, T: Ledger>(
+pub(crate) fn paint_history<R: Threads + Sync, G: Gate, D: Ledger, T: Ledger>(
     rt: &R,
     alloc: Global,
     entries: &[Entry],
     workers: &Workers<'_, G>,
     draws: &mut Steps<D>,
     tiles: &mut Steps<T>,
-) -> Result<B, AllocError>
-    ensures board { IfOk result (λ board. B.board board ≡ replay entries.now) }
+) -> Result<Canvas, AllocError>
+    ensures canvas { IfOk result (λ canvas. canvas ≡ replay entries.now) }
     ensures few { CountsFew reach (drawn_commands undo_depth (map user_act_of entries.now))
         draws.old draws.new tiles.old tiles.new }
 {
     let commands = drawn_commands(alloc, entries)?;
-    let board = paint(rt, alloc, &commands, workers, draws, tiles);
+    let canvas = paint(rt, alloc, &commands, workers, draws, tiles);
     drop(commands);
-    board
+    canvas
 }
 
-/// A board on which these commands were drawn, by workers.
-fn paint<B: BatchBoard, R: Threads + Sync, G: Gate, D: Ledger, T: Ledger>(
+/// A canvas on which these commands were drawn, by workers.
+fn paint<R: Threads + Sync, G: Gate, D: Ledger, T: Ledger>(
     rt: &R,
     alloc: Global,
     commands: &[Draw],
     workers: &Workers<'_, G>,
     draws: &mut Steps<D>,
     tiles: &mut Steps<T>,
-) -> Result<B, AllocError>
-    ensures board { IfOk result (λ board. B.board board ≡ draw_all empty_board commands.now) }
+) -> Result<Canvas, AllocError>
+    ensures canvas { IfOk result (λ canvas. canvas ≡ draw_all empty_board commands.now) }
     ensures few { CountsFew reach commands.now draws.old draws.new tiles.old tiles.new }
 {
-    B::shows();
-    let mut board = B::blank(alloc)?;
-    match board.draw_batch(rt, commands, workers, draws, tiles) {
-        Ok(()) => Ok(board),
+    let mut canvas = Canvas::new(alloc);
+    match canvas.draw_batch(rt, commands, workers, draws, tiles) {
+        Ok(()) => Ok(canvas),
         Err(error) => {
-            drop(board);
+            drop(canvas);
             Err(error)
         }
     }

@@ -16,7 +16,6 @@ use crate::laws::drills_need_no_clients;
 use crate::painting::paint_history;
 use crate::rounds::{begin, play_rounds};
 use crate::summary::{summary, sums_of};
-use dp_batch::BatchBoard;
 use dp_epochs::Entries;
 use dp_io::{Failed, Sink, put_all};
 use dp_lines::RunEnd;
@@ -46,15 +45,7 @@ pub struct Drill {
 /// `Memory` if memory ran out: nothing was written.
 ///
 /// The rule: docs/protocol.md, "Drills".
-pub fn run_drill<
-    S: SureSession,
-    B: BatchBoard,
-    R: Threads + Sync,
-    O: Sink,
-    G: Gate,
-    D: Ledger,
-    T: Ledger,
->(
+pub fn run_drill<S: SureSession, R: Threads + Sync, O: Sink, G: Gate, D: Ledger, T: Ledger>(
     rt: &R,
     alloc: Global,
     drill: Drill,
@@ -69,7 +60,7 @@ pub fn run_drill<
         → FaultMatchesEnd n n (O.faults output.old) (O.faults output.new) result }
     ensures output_later { O.faults output.old ≤ O.faults output.new }
 {
-    let Ok(text) = drill_text::<S, B, R, G, D, T>(rt, alloc, drill, workers, draws, tiles) else {
+    let Ok(text) = drill_text::<S, R, G, D, T>(rt, alloc, drill, workers, draws, tiles) else {
         return RunEnd::Memory;
     };
     match put_all(output, &text) {
@@ -79,7 +70,7 @@ pub fn run_drill<
 }
 
 /// What a drill prints.
-fn drill_text<S: SureSession, B: BatchBoard, R: Threads + Sync, G: Gate, D: Ledger, T: Ledger>(
+fn drill_text<S: SureSession, R: Threads + Sync, G: Gate, D: Ledger, T: Ledger>(
     rt: &R,
     alloc: Global,
     drill: Drill,
@@ -92,21 +83,13 @@ fn drill_text<S: SureSession, B: BatchBoard, R: Threads + Sync, G: Gate, D: Ledg
         draws.old draws.new tiles.old tiles.new }
 {
     let entries = drill_history::<S>(alloc, drill)?;
-    let text = summary_of::<B, R, G, D, T>(
-        rt,
-        alloc,
-        drill,
-        entries.as_slice(),
-        workers,
-        draws,
-        tiles,
-    );
+    let text = summary_of(rt, alloc, drill, entries.as_slice(), workers, draws, tiles);
     drop(entries);
     text
 }
 
 /// The summary of a drill with this history.
-fn summary_of<B: BatchBoard, R: Threads + Sync, G: Gate, D: Ledger, T: Ledger>(
+fn summary_of<R: Threads + Sync, G: Gate, D: Ledger, T: Ledger>(
     rt: &R,
     alloc: Global,
     drill: Drill,
@@ -120,9 +103,9 @@ fn summary_of<B: BatchBoard, R: Threads + Sync, G: Gate, D: Ledger, T: Ledger>(
     ensures few { CountsFew reach (drawn_commands undo_depth (map user_act_of entries.now))
         draws.old draws.new tiles.old tiles.new }
 {
-    let board: B = paint_history(rt, alloc, entries, workers, draws, tiles)?;
-    let sums = sums_of(&board);
-    drop(board);
+    let canvas = paint_history(rt, alloc, entries, workers, draws, tiles)?;
+    let sums = sums_of(&canvas);
+    drop(canvas);
     summary(alloc, drill.seed, drill.rounds, entries.len(), sums)
 }
 

@@ -139,8 +139,8 @@ held-further marked m is left now board later due less reader next entry read he
     (held at all on are trails)) fewer shows
 
 -- a batch was read, and what was read is drawn next
-pub shows-next : {P : Type 0} (at : Option ℕ) (input left now : Option (List ℕ)) (on next : Board)
-    (old new : Ahead P) (later : Trailing Board Draw) (marked : Bool)
+pub shows-next : (at : Option ℕ) (input left now : Option (List ℕ)) (on next : Board)
+    (old new : Ahead) (later : Trailing Board Draw) (marked : Bool)
     → ((at : Option ℕ) (input : Option (List ℕ)) (on : Board) → ShowsFirstOn at input left on old
     → ShowsFirstOn at input now (board_after marked on new.board) new)
     → ((entries : List Entry)

@@ -34,14 +34,13 @@ ShowsFirst at input left board due reader =
     × TrailsShown board (first_of at all) × AreDue at all due)
 
 -- the same where another board trails
-abbrev pub ShowsFirstOn : {P : Type 0} → Option ℕ → Option (List ℕ) → Option (List ℕ) → Board
-    → Ahead P → Type 0
+abbrev pub ShowsFirstOn : Option ℕ → Option (List ℕ) → Option (List ℕ) → Board → Ahead → Type 0
 ShowsFirstOn at input left on a = ShowsFirst at input left (on_board on a.board) a.due a.reader
 
 -- A batch of entries was read, the last one a mark of a reset or not. Before it `left` was left of
 -- the input, which had failed `before` times; by `now` and `after` it tells how it is then.
-pub record ReadsBatch {P : Type 0} (left now : Option (List ℕ)) (before after : ℕ)
-    (old new : Ahead P) (marked : Bool) : Type 0 where
+pub record ReadsBatch (left now : Option (List ℕ)) (before after : ℕ) (old new : Ahead)
+    (marked : Bool) : Type 0 where
   pub shown : (at : Option ℕ) (input : Option (List ℕ)) (on : Board)
       → ShowsFirstOn at input left on old
       → ShowsFirstOn at input now (board_after marked on new.board) new
@@ -50,8 +49,8 @@ pub record ReadsBatch {P : Type 0} (left now : Option (List ℕ)) (before after 
   pub kept : after ≡ before
 
 -- reading ended so in a batch
-pub record EndsInBatch {P : Type 0} (left now : Option (List ℕ)) (before after : ℕ)
-    (old new : Ahead P) (end : RunEnd) : Type 0 where
+pub record EndsInBatch (left now : Option (List ℕ)) (before after : ℕ) (old new : Ahead)
+    (end : RunEnd) : Type 0 where
   pub told : (at : Option ℕ) (input : Option (List ℕ)) (on : Board)
       → ShowsFirstOn at input left on old
       → IfSome input (λ bytes. EndsReading (play_way at) bytes now (on_board on new.board) end)
@@ -59,8 +58,7 @@ pub record EndsInBatch {P : Type 0} (left now : Option (List ℕ)) (before after
   pub to_end : GoesOn old.reader → ReadsToEnd end → IsAtEnd now
 
 -- by how the batch ended
-abbrev pub EndsBatch : {P : Type 0} → Option (List ℕ) → Option (List ℕ) → ℕ → ℕ → Ahead P
-    → Ahead P → Batch → Type 0
+abbrev pub EndsBatch : Option (List ℕ) → Option (List ℕ) → ℕ → ℕ → Ahead → Ahead → Batch → Type 0
 EndsBatch left now before after old new (More marked) =
     ReadsBatch left now before after old new marked
 EndsBatch left now before after old new (Ended end) =

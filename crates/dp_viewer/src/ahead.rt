@@ -15,14 +15,12 @@ ghost use Rattle.dp_viewer.specs.Ways.{first_of, play_way};
 
 use crate::reading::{ShownBoard, begin_anew, reads_to_end, take_due};
 use crate::workers::WorkersBoard;
-use dp_batch::{SettlingPixels, settle_half_full};
+use dp_canvas::{DeferredBoard, settle_half_full};
 use dp_io::Source;
-use dp_layered::LayeredBoard;
 use dp_lines::RunEnd;
 use dp_messages::Entry;
 use dp_msg_draw::{Draw, TileContent};
 use dp_par::Workers;
-use dp_plain::LayerPixels;
 use dp_recording::RecordingReader;
 use dp_replay::act_of_entry;
 use dp_savepoints::KeptAct;
@@ -62,16 +60,16 @@ pub(crate) enum Batch {
 /// What is read: the entries of a recording, and the acts that are held of them. The board that
 /// trails them is elsewhere.
 #[derive(Drop)]
-pub(crate) struct Ahead<P: LayerPixels> {
+pub(crate) struct Ahead {
     pub reader: RecordingReader,
-    pub board: ShownBoard<P>,
+    pub board: ShownBoard,
     pub due: Option<u32>,
 }
 
 /// What is drawn: acts, and the board that they are drawn on.
 #[derive(Drop)]
-pub(crate) struct Behind<P: LayerPixels> {
-    pub board: LayeredBoard<P>,
+pub(crate) struct Behind {
+    pub board: DeferredBoard,
     pub ready: Vec<KeptAct<Draw>>,
     /// Whether the acts before these were drawn.
     pub drawn: bool,
@@ -87,19 +85,15 @@ pub(crate) struct Crew<'a, R, G> {
 
 /// A board of which a recording was read, and how reading it ended.
 #[derive(Drop)]
-pub(crate) struct Played<'a, P: LayerPixels, R, G> {
-    pub shown: WorkersBoard<'a, P, R, G>,
+pub(crate) struct Played<'a, R, G> {
+    pub shown: WorkersBoard<'a, R, G>,
     pub end: RunEnd,
 }
 
 /// Holds the act of the next entry. Whether the entry is a mark of a reset: the board begins anew
 /// then.
 #[inline(always)]
-fn hold<P: LayerPixels>(
-    alloc: Global,
-    board: &mut ShownBoard<P>,
-    entry: Entry,
-) -> Result<bool, AllocError>
+fn hold(alloc: Global, board: &mut ShownBoard, entry: Entry) -> Result<bool, AllocError>
     ensures { IfOk result (λ marked. (all : List Item) (on : Board)
         → TrailsShown (on_board on board.old) all
         → TrailsShown (on_board (board_after marked on board.new) board.new)
@@ -118,9 +112,9 @@ fn hold<P: LayerPixels>(
 
 /// The same for the next entry, if it is one of those that are left to show, or of all.
 #[inline(always)]
-fn hold_due<P: LayerPixels>(
+fn hold_due(
     alloc: Global,
-    board: &mut ShownBoard<P>,
+    board: &mut ShownBoard,
     due: &mut Option<u32>,
     entry: Entry,
 ) -> Result<bool, AllocError>
@@ -158,12 +152,7 @@ fn weight(entry: &Entry) -> usize {
 }
 
 /// Reads a batch of `count` entries, and holds their acts.
-fn read_batch<P: LayerPixels, I: Source>(
-    alloc: Global,
-    input: &mut I,
-    ahead: &mut Ahead<P>,
-    count: usize,
-) -> Batch
+fn read_batch<I: Source>(alloc: Global, input: &mut I, ahead: &mut Ahead, count: usize) -> Batch
     ensures read { EndsBatch (I.left input.old) (I.left input.new) (I.faults input.old)
         (I.faults input.new) ahead.old ahead.new result }
     ensures later { I.faults input.old ≤ I.faults input.new }
@@ -189,9 +178,9 @@ fn read_batch<P: LayerPixels, I: Source>(
 }
 
 /// Draws acts. From time to time workers paint what waits on layers on which much does.
-fn draw_settling<P: SettlingPixels, R: Threads + Sync, G: Gate, D: Ledger, T: Ledger>(
+fn draw_settling<R: Threads + Sync, G: Gate, D: Ledger, T: Ledger>(
     crew: &Crew<'_, R, G>,
-    board: &mut LayeredBoard<P>,
+    board: &mut DeferredBoard,
     acts: &[KeptAct<Draw>],
     draws: &mut Steps<D>,
     tiles: &mut Steps<T>,
@@ -208,7 +197,7 @@ fn draw_settling<P: SettlingPixels, R: Threads + Sync, G: Gate, D: Ledger, T: Le
     Ok(())
 }
 
-impl<P: SettlingPixels> Behind<P> {
+impl Behind {
     /// Draws the acts, unless memory runs out, and lets them go.
     fn draw<R: Threads + Sync, G: Gate, D: Ledger, T: Ledger>(
         &mut self,
@@ -229,7 +218,7 @@ impl<P: SettlingPixels> Behind<P> {
     fn go_on(
         &mut self,
         alloc: Global,
-        board: &mut ShownBoard<P>,
+        board: &mut ShownBoard,
         marked: bool,
     ) -> Result<(), AllocError>
         ensures { OnOk result ((on : Board) (entries : List Item)
@@ -250,7 +239,7 @@ impl<P: SettlingPixels> Behind<P> {
     fn turn(
         &mut self,
         alloc: Global,
-        board: &mut ShownBoard<P>,
+        board: &mut ShownBoard,
         marked: bool,
     ) -> Result<(), AllocError>
         ensures { OnOk result ((entries : List Item)
@@ -259,7 +248,7 @@ impl<P: SettlingPixels> Behind<P> {
             (fold draw self.new.board (drawn_among self.new.ready.items)) board.new) entries) }
     {
         if marked {
-            let held = board.put_board(LayeredBoard::new(alloc));
+            let held = board.put_board(DeferredBoard::new(alloc));
             drop(replace(&mut self.board, held));
             self.ready.clear();
         } else {
@@ -275,19 +264,11 @@ impl<P: SettlingPixels> Behind<P> {
 /// Draws acts, if there are any, and meanwhile reads a batch of `count` entries. Another thread
 /// draws them, if one can be made. One that does nothing is started before it: the system puts the
 /// first thread that it starts where this one runs, and these two would take turns.
-fn read_beside<
-    'a,
-    P: SettlingPixels + Send,
-    R: Threads + Sync,
-    I: Source,
-    G: Gate,
-    D: Ledger + Send,
-    T: Ledger + Send,
->(
+fn read_beside<'a, R: Threads + Sync, I: Source, G: Gate, D: Ledger + Send, T: Ledger + Send>(
     crew: &'a Crew<'a, R, G>,
     input: &mut I,
-    ahead: &mut Ahead<P>,
-    behind: &mut Behind<P>,
+    ahead: &mut Ahead,
+    behind: &mut Behind,
     count: usize,
     draws: &mut Steps<D>,
     tiles: &mut Steps<T>,
@@ -316,23 +297,14 @@ fn read_beside<
 }
 
 /// Reads a batch of `count` entries, while another thread, if one can be made, draws acts.
-fn draw_and_read<
-    'a,
-    'b,
-    P: SettlingPixels + Send,
-    R: Threads + Sync,
-    I: Source,
-    G: Gate,
-    D: Ledger + Send,
-    T: Ledger + Send,
->(
+fn draw_and_read<'a, R: Threads + Sync, I: Source, G: Gate, D: Ledger + Send, T: Ledger + Send>(
     crew: &'a Crew<'a, R, G>,
-    input: &'b mut I,
-    ahead: &'b mut Ahead<P>,
-    behind: &'a mut Behind<P>,
+    input: &mut I,
+    ahead: &mut Ahead,
+    behind: &mut Behind,
     count: usize,
-    draws: &'a mut Steps<D>,
-    tiles: &'a mut Steps<T>,
+    draws: &mut Steps<D>,
+    tiles: &mut Steps<T>,
 ) -> Batch
     ensures drawn { behind.new.drawn ≡ true → behind.new.board
         ≡ fold draw behind.old.board (drawn_among behind.old.ready.items) }
@@ -341,23 +313,24 @@ fn draw_and_read<
     ensures later { I.faults input.old ≤ I.faults input.new }
 {
     let alloc = crew.alloc;
-    let mut draw_acts = ||
-        ensures { behind.exit.now.drawn ≡ true → behind.exit.now.board
-            ≡ fold draw behind.entry.now.board (drawn_among behind.entry.now.ready.items) }
-    { behind.draw(crew, draws, tiles) };
-    let mut read = move || -> Batch
-        ensures { EndsBatch (I.left input.entry.now) (I.left input.exit.now)
-            (I.faults input.entry.now) (I.faults input.exit.now) ahead.entry.now ahead.exit.now
-            result × (I.faults input.entry.now ≤ I.faults input.exit.now) }
-    { read_batch(alloc, input, ahead, count) };
-    let (_, batch) = join_mut(crew.rt, &mut draw_acts, &mut read);
+    let (_, batch) = join_mut(
+        crew.rt,
+        &mut ||
+            ensures { behind.exit.now.drawn ≡ true → behind.exit.now.board
+                ≡ fold draw behind.entry.now.board (drawn_among behind.entry.now.ready.items) }
+        { behind.draw(crew, draws, tiles) },
+        &mut || -> Batch
+            ensures { EndsBatch (I.left input.entry.now) (I.left input.exit.now)
+                (I.faults input.entry.now) (I.faults input.exit.now) ahead.entry.now ahead.exit.now
+                result × (I.faults input.entry.now ≤ I.faults input.exit.now) }
+        { read_batch(alloc, input, ahead, count) },
+    );
     batch
 }
 
 /// Reads a recording as `read_recording` does, and draws its entries while more are read.
 pub(crate) fn read_ahead<
     'a,
-    P: SettlingPixels + Send,
     R: Threads + Sync,
     I: Source,
     G: Gate,
@@ -366,10 +339,10 @@ pub(crate) fn read_ahead<
 >(
     alloc: Global,
     input: &mut I,
-    shown: WorkersBoard<'a, P, R, G>,
+    shown: WorkersBoard<'a, R, G>,
     draws: &mut Steps<D>,
     tiles: &mut Steps<T>,
-) -> Played<'a, P, R, G>
+) -> Played<'a, R, G>
     requires { TrailsShown shown.board [] }
     ensures told { IfSome (I.left input.old) (λ bytes. EndsReading (play_way shown.entry.due) bytes
         (I.left input.new) result.shown.board result.end) }
@@ -386,7 +359,7 @@ pub(crate) fn read_ahead<
     } = shown;
     let crew = Crew { rt, alloc, workers };
     let reader = RecordingReader::new();
-    let blank = LayeredBoard::new(alloc);
+    let blank = DeferredBoard::new(alloc);
     let first = board.put_board(blank);
     let ready = Vec::new(alloc);
     let mut ahead = Ahead { reader, board, due };
@@ -428,12 +401,12 @@ fn end_after(end: RunEnd, drawn: bool) -> RunEnd
 }
 
 /// The board once nothing is read any more.
-fn put_back<'a, P: LayerPixels, R, G>(
+fn put_back<'a, R, G>(
     crew: Crew<'a, R, G>,
-    ahead: Ahead<P>,
-    behind: Behind<P>,
+    ahead: Ahead,
+    behind: Behind,
     end: RunEnd,
-) -> Played<'a, P, R, G>
+) -> Played<'a, R, G>
     ensures board { result.shown.board ≡ on_board behind.board ahead.board }
     ensures end { result.end ≡ end }
 {

@@ -11,11 +11,9 @@ ghost use Rattle.dp_viewer.specs.Ways.{play_way, replay_way};
 use crate::ahead::{Played, read_ahead};
 use crate::reading::{Reading, ShownBoard, blank_board, read_frames, read_recording, reads_to_end};
 use crate::workers::{Playing, WorkersBoard};
-use dp_batch::SettlingPixels;
 use dp_flat::write_p6;
 use dp_io::{Sink, Source};
 use dp_lines::RunEnd;
-use dp_plain::LayerPixels;
 use dp_shown::PictureEnd;
 use dp_steps::Steps;
 use dp_wire::Gate;
@@ -33,7 +31,7 @@ use std::thread::Threads;
 /// failed, and with `Memory` if memory ran out.
 ///
 /// The rule: docs/protocol.md, "Commands".
-pub fn run_replay<P: LayerPixels, I: Source, O: Sink, D: Ledger, T: Ledger>(
+pub fn run_replay<I: Source, O: Sink, D: Ledger, T: Ledger>(
     alloc: Global,
     input: &mut I,
     output: &mut O,
@@ -47,7 +45,7 @@ pub fn run_replay<P: LayerPixels, I: Source, O: Sink, D: Ledger, T: Ledger>(
     ensures input_later { I.faults input.old ≤ I.faults input.new }
     ensures output_later { O.faults output.old ≤ O.faults output.new }
 {
-    let Ok(blank) = blank_board::<P>(alloc) else {
+    let Ok(blank) = blank_board(alloc) else {
         return RunEnd::Memory;
     };
     let Reading { board, end } = read_frames(alloc, input, blank, draws, tiles);
@@ -69,15 +67,7 @@ pub fn run_replay<P: LayerPixels, I: Source, O: Sink, D: Ledger, T: Ledger>(
 /// from the input's start.
 ///
 /// The rule: docs/protocol.md, "Recordings".
-pub fn run_play<
-    P: SettlingPixels + Send + Sync,
-    R: Threads + Sync,
-    I: Source,
-    O: Sink,
-    G: Gate,
-    D: Ledger + Send,
-    T: Ledger + Send,
->(
+pub fn run_play<R: Threads + Sync, I: Source, O: Sink, G: Gate, D: Ledger + Send, T: Ledger + Send>(
     rt: &R,
     alloc: Global,
     input: &mut I,
@@ -93,7 +83,7 @@ pub fn run_play<
     ensures input_later { I.faults input.old ≤ I.faults input.new }
     ensures output_later { O.faults output.old ≤ O.faults output.new }
 {
-    let Ok(blank) = blank_board::<P>(alloc) else {
+    let Ok(blank) = blank_board(alloc) else {
         return RunEnd::Memory;
     };
     let shown = WorkersBoard::new(rt, blank, playing);
@@ -107,21 +97,13 @@ pub fn run_play<
 }
 
 /// Reads a recording to its end. If there are several workers, they paint while entries are read.
-fn read_shown<
-    'a,
-    P: SettlingPixels + Send,
-    R: Threads + Sync,
-    I: Source,
-    G: Gate,
-    D: Ledger + Send,
-    T: Ledger + Send,
->(
+fn read_shown<'a, R: Threads + Sync, I: Source, G: Gate, D: Ledger + Send, T: Ledger + Send>(
     alloc: Global,
     input: &mut I,
-    mut shown: WorkersBoard<'a, P, R, G>,
+    mut shown: WorkersBoard<'a, R, G>,
     draws: &mut Steps<D>,
     tiles: &mut Steps<T>,
-) -> Played<'a, P, R, G>
+) -> Played<'a, R, G>
     requires { TrailsShown shown.board [] }
     ensures told { IfSome (I.left input.old) (λ bytes. EndsReading (play_way shown.entry.due) bytes
         (I.left input.new) result.shown.board result.end) }
@@ -138,9 +120,9 @@ fn read_shown<
 }
 
 /// Writes the picture of what the board trails. Ends as given if it is written.
-fn write_shown<P: LayerPixels, O: Sink, D: Ledger, T: Ledger>(
+fn write_shown<O: Sink, D: Ledger, T: Ledger>(
     alloc: Global,
-    board: ShownBoard<P>,
+    board: ShownBoard,
     output: &mut O,
     end: RunEnd,
     draws: &mut Steps<D>,

@@ -10,12 +10,11 @@ ghost use Rattle.dp_viewer.specs.Reading.{AreDue, TrailsShown, is_due};
 ghost use Rattle.dp_viewer.specs.Ways.{first_of, play_way, replay_way};
 
 use crate::workers::WorkersBoard;
+use dp_canvas::DeferredBoard;
 use dp_entries::{Anywhere, EntryReader};
 use dp_io::Source;
-use dp_layered::LayeredBoard;
 use dp_lines::RunEnd;
 use dp_messages::Entry;
-use dp_plain::LayerPixels;
 use dp_recording::RecordingReader;
 use dp_replay::{UNDO_DEPTH, act_of_entry};
 use dp_steps::Steps;
@@ -29,32 +28,32 @@ use std::thread::Threads;
 /// How many bytes of the input of `replay` count: 1 GiB.
 const INPUT_LIMIT: u64 = 1 << 30;
 
-/// A board that trails what an input shows, whose layers hold pixels of one kind.
-pub(crate) type ShownBoard<P> = TrailingBoard<LayeredBoard<P>>;
+/// A board that trails what an input shows.
+pub(crate) type ShownBoard = TrailingBoard<DeferredBoard>;
 
 /// The board of what the input shows, and how reading it ended.
 #[derive(Drop)]
-pub(crate) struct Reading<P: LayerPixels> {
-    pub board: ShownBoard<P>,
+pub(crate) struct Reading {
+    pub board: ShownBoard,
     pub end: RunEnd,
 }
 
 /// The board of no entries.
-pub(crate) fn blank_board<P: LayerPixels>(alloc: Global) -> Result<ShownBoard<P>, AllocError>
+pub(crate) fn blank_board(alloc: Global) -> Result<ShownBoard, AllocError>
     ensures { IfOk result (λ board. TrailsShown board []) }
 {
-    TrailingBoard::new(alloc, UNDO_DEPTH, LayeredBoard::new(alloc))
+    TrailingBoard::new(alloc, UNDO_DEPTH, DeferredBoard::new(alloc))
 }
 
 /// Reads frames to the input's end, to the first that carries nothing, or to the limit. What they
 /// show is drawn on the board of no entries.
-pub(crate) fn read_frames<P: LayerPixels, I: Source, D: Ledger, T: Ledger>(
+pub(crate) fn read_frames<I: Source, D: Ledger, T: Ledger>(
     alloc: Global,
     input: &mut I,
-    mut board: ShownBoard<P>,
+    mut board: ShownBoard,
     draws: &mut Steps<D>,
     tiles: &mut Steps<T>,
-) -> Reading<P>
+) -> Reading
     requires { TrailsShown board [] }
     ensures told { IfSome (I.left input.old) (λ bytes.
         EndsReading replay_way bytes (I.left input.new) result.board result.end) }
@@ -95,10 +94,7 @@ pub(crate) fn read_frames<P: LayerPixels, I: Source, D: Ledger, T: Ledger>(
 }
 
 /// Begins anew: the board of no entries in the place of this one.
-pub(crate) fn begin_anew<P: LayerPixels>(
-    alloc: Global,
-    board: &mut ShownBoard<P>,
-) -> Result<(), AllocError>
+pub(crate) fn begin_anew(alloc: Global, board: &mut ShownBoard) -> Result<(), AllocError>
     ensures { OnOk result (TrailsShown board.new []) }
 {
     let blank = blank_board(alloc)?;
@@ -108,9 +104,9 @@ pub(crate) fn begin_anew<P: LayerPixels>(
 
 /// Shows the next entry. A mark of a reset begins anew: all before it shows nothing from there on.
 #[inline(always)]
-fn show<P: LayerPixels, D: Ledger, T: Ledger>(
+fn show<D: Ledger, T: Ledger>(
     alloc: Global,
-    board: &mut ShownBoard<P>,
+    board: &mut ShownBoard,
     entry: Entry,
     draws: &mut Steps<D>,
     tiles: &mut Steps<T>,
@@ -128,17 +124,10 @@ fn show<P: LayerPixels, D: Ledger, T: Ledger>(
 
 /// Reads a recording in the same way. Of its entries the first are shown, as many as are due, or
 /// all. Those after them are read all the same.
-pub(crate) fn read_recording<
-    P: LayerPixels,
-    R: Threads + Sync,
-    I: Source,
-    G: Gate,
-    D: Ledger,
-    T: Ledger,
->(
+pub(crate) fn read_recording<R: Threads + Sync, I: Source, G: Gate, D: Ledger, T: Ledger>(
     alloc: Global,
     input: &mut I,
-    shown: &mut WorkersBoard<'_, P, R, G>,
+    shown: &mut WorkersBoard<'_, R, G>,
     draws: &mut Steps<D>,
     tiles: &mut Steps<T>,
 ) -> RunEnd
@@ -172,9 +161,9 @@ pub(crate) fn read_recording<
 
 /// Shows the next entry if it is one of the first, of which `due` are left to show, or of all.
 #[inline(always)]
-fn show_due<P: LayerPixels, D: Ledger, T: Ledger>(
+fn show_due<D: Ledger, T: Ledger>(
     alloc: Global,
-    board: &mut ShownBoard<P>,
+    board: &mut ShownBoard,
     due: &mut Option<u32>,
     entry: Entry,
     draws: &mut Steps<D>,

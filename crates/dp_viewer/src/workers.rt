@@ -8,7 +8,6 @@ use dp_flat::write_p6_by;
 use dp_io::Sink;
 use dp_lines::RunEnd;
 use dp_par::Workers;
-use dp_plain::LayerPixels;
 use dp_shown::PictureEnd;
 use dp_steps::Steps;
 use dp_wire::Gate;
@@ -30,16 +29,16 @@ pub struct Playing<'a, G> {
 /// A board that trails what a recording shows, how many entries are left to show, or all, and the
 /// workers who paint it.
 #[derive(Drop)]
-pub(crate) struct WorkersBoard<'a, P: LayerPixels, R, G> {
-    pub board: ShownBoard<P>,
+pub(crate) struct WorkersBoard<'a, R, G> {
+    pub board: ShownBoard,
     pub due: Option<u32>,
     pub rt: &'a R,
     pub workers: Workers<'a, G>,
 }
 
-impl<'a, P: LayerPixels + Sync, R: Threads + Sync, G: Gate> WorkersBoard<'a, P, R, G> {
+impl<'a, R: Threads + Sync, G: Gate> WorkersBoard<'a, R, G> {
     /// A board, with how many entries are left to show, or all.
-    pub(crate) fn new(rt: &'a R, board: ShownBoard<P>, playing: Playing<'a, G>) -> Self
+    pub(crate) fn new(rt: &'a R, board: ShownBoard, playing: Playing<'a, G>) -> Self
         ensures board { result.board ≡ board }
         ensures due { result.due ≡ playing.entry.at }
     {

@@ -10,14 +10,14 @@ use Rattle.dp_viewer.proofs.Showing.{TrailsShown-entry, TrailsShown-mark}
 use Rattle.dp_viewer.proofs.ahead.hold.Goals as goal
 
 pub returns-in_ok-begin_anew : goal.returns-in_ok-begin_anew
-returns-in_ok-begin_anew g c = λ all on trails.
+returns-in_ok-begin_anew c = λ all on trails.
     let now = c.begin_anew.new.board in
     on-own now (all ++ c.args.entry ∷ [])
     (TrailsShown-mark now all c.args.entry
     (sym c.is_reset_mark.ensures ∙ c.if-is_reset_mark.true) c.in_ok-begin_anew.ensures)
 
 pub returns-in_ok-hold : goal.returns-in_ok-hold
-returns-in_ok-hold g c = λ all on trails.
+returns-in_ok-hold c = λ all on trails.
     let was = on_board on c.args.board.now in
     let now = on_board on c.hold.new.self in
     TrailsShown-entry was now all c.args.entry

@@ -6,7 +6,7 @@ use Rattle.dp_viewer.specs.Reading.{TrailsShown}
 use Rattle.dp_viewer.proofs.ahead.Behind.go_on.Goals as goal
 
 pub returns-then-drawn : goal.returns-then-drawn
-returns-then-drawn g c =
+returns-then-drawn c =
     let was = c.args.board.now in
     on_ok_weaker c.turn.result (λ goes on entries is trails.
     goes entries (subst (λ (b : Board).

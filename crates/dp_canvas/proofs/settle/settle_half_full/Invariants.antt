@@ -1,5 +1,5 @@
 use Rattle.std.proofs.Common.{◌≡◌, ◌+◌, ◌*◌, ◌≤◌}
-use Rattle.dp_batch.proofs.settle.settle_half_full.Given as goal
+use Rattle.dp_canvas.proofs.settle.settle_half_full.Given as goal
 
 -- the board is the same, and each layer before the place has few tiles more
 abbrev pub invariant-loop-k : goal.invariant-loop-k

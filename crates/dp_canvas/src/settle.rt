@@ -3,9 +3,8 @@
 ghost use Rattle.std.specs.Prelude.{◌≡◌, ◌+◌, ◌*◌, ◌≤◌};
 ghost use Rattle.dp_layers.specs.Layers.{row_limit};
 
-use crate::pixels::SettlingPixels;
+use crate::deferred::{DeferredBoard, DeferredPixels};
 use dp_board::Board;
-use dp_layered::LayeredBoard;
 use dp_par::Workers;
 use dp_plain::{BoardView, LayerPixels};
 use dp_steps::Steps;
@@ -20,10 +19,10 @@ use std::thread::Threads;
 /// # Errors
 ///
 /// Some of the layers are painted, and the board is the same.
-pub fn settle_half_full<P: SettlingPixels, R: Threads + Sync, G: Gate, T: Ledger>(
+pub fn settle_half_full<R: Threads + Sync, G: Gate, T: Ledger>(
     rt: &R,
     alloc: Global,
-    board: &mut LayeredBoard<P>,
+    board: &mut DeferredBoard,
     workers: &Workers<'_, G>,
     tiles: &mut Steps<T>,
 ) -> Result<(), AllocError>
@@ -41,10 +40,10 @@ pub fn settle_half_full<P: SettlingPixels, R: Threads + Sync, G: Gate, T: Ledger
 
 /// Paints what waits on the paint layer of the id, if its lists are half full. Meanwhile a clear
 /// layer stands in its place.
-fn settle_layer<P: SettlingPixels, R: Threads + Sync, G: Gate, T: Ledger>(
+fn settle_layer<R: Threads + Sync, G: Gate, T: Ledger>(
     rt: &R,
     alloc: Global,
-    board: &mut LayeredBoard<P>,
+    board: &mut DeferredBoard,
     id: u16,
     workers: &Workers<'_, G>,
     tiles: &mut Steps<T>,
@@ -60,7 +59,7 @@ fn settle_layer<P: SettlingPixels, R: Threads + Sync, G: Gate, T: Ledger>(
     if !content.is_half_full() {
         return Ok(());
     }
-    let clear = P::clear(alloc, board.width(), board.height(), tiles)?;
+    let clear = DeferredPixels::clear(alloc, board.width(), board.height(), tiles)?;
     let mut content = board.put_content(id, clear);
     let settled = content.settle_by(rt, workers, tiles);
     let _clear = board.put_content(id, content);
