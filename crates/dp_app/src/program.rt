@@ -72,11 +72,12 @@ pub struct Outcome<W, K> {
     pub reports: Reports,
 }
 
-impl<W: Drop, K> Outcome<W, K> {
-    /// The status and the keeper. The rest is let go.
-    pub fn into_status(self) -> (u8, K)
+impl<W, K> Outcome<W, K> {
+    /// The status, the wires and the keeper. The rest is let go.
+    pub fn into_parts(self) -> (u8, Vec<W>, K)
         ensures status { result.0 ≡ self.status }
-        ensures keeper { result.1 ≡ self.keeper }
+        ensures wires { result.1 ≡ self.wires }
+        ensures keeper { result.2 ≡ self.keeper }
     {
         let Outcome {
             status,
@@ -86,10 +87,9 @@ impl<W: Drop, K> Outcome<W, K> {
             shut,
             reports,
         } = self;
-        drop(wires);
         let_go(journal, shut);
         drop(reports);
-        (status, keeper)
+        (status, wires, keeper)
     }
 }
 

@@ -44,12 +44,7 @@ pub(crate) fn status_of<R: Threads + Wait + Sync, W: Wire + Send + Drop>(
 }
 
 /// Runs the program with counters over these blanks.
-fn counted<
-    R: Threads + Wait + Sync,
-    W: Wire + Send + Drop,
-    D: Ledger + Send,
-    T: Ledger + Send,
->(
+fn counted<R: Threads + Wait + Sync, W: Wire + Send + Drop, D: Ledger + Send, T: Ledger + Send>(
     rt: &R,
     alloc: Global,
     words: &[String],
@@ -61,7 +56,7 @@ fn counted<
     requires draws { (draws.name ≡ D.name) × (draws.parts ≡ D.parts) × (0 < draws.parts) }
     requires tiles { (tiles.name ≡ T.name) × (tiles.parts ≡ T.parts) × (0 < tiles.parts) }
 {
-    let (status, keeper) = drawpile(
+    let (status, wires, keeper) = drawpile(
         rt,
         alloc,
         words,
@@ -74,7 +69,8 @@ fn counted<
         &mut Steps::<D>::new(draws),
         &mut Steps::<T>::new(tiles),
     )
-    .into_status();
+    .into_parts();
+    drop(wires);
     drop(keeper);
     status
 }

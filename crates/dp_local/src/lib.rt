@@ -1,5 +1,5 @@
 //! The commands that work on the input and the output alone: what they are due, what they leave,
-//! and running them. The world and the session that they work on are parameters.
+//! and running them. The world of a schedule and the session of a drill are parameters.
 #![tactic(auto)]
 
 mod host;

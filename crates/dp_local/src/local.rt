@@ -49,8 +49,8 @@ pub fn run_local<
 {
     let Host { rt, alloc, gate } = host;
     match command {
-        LocalCommand::Replay => { run_replay(alloc, input, output, draws, tiles) }
-        LocalCommand::World => { run_world::<W, I, O, D, T>(alloc, input, output, draws, tiles) }
+        LocalCommand::Replay => run_replay(alloc, input, output, draws, tiles),
+        LocalCommand::World => run_world::<W, I, O, D, T>(alloc, input, output, draws, tiles),
         LocalCommand::Play { at, workers } => {
             let (at, workers) = (*at, *workers);
             let playing = Playing { at, workers, gate };

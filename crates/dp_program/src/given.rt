@@ -56,6 +56,13 @@ impl<'a> Given<'a> {
     }
 }
 
+/// Lets go of the words and of the wires, and closes the store.
+pub fn close(words: Vec<String>, wires: Vec<TcpWire<&HostRuntime>>, store: Store) {
+    drop(words);
+    drop(wires);
+    store.close();
+}
+
 /// Opens the store, and has the rest beside it.
 fn with_store<'a>(rt: &'a HostRuntime, asked: Asked<'a>) -> Result<Given<'a>, u8> {
     let Asked {

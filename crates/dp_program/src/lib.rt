@@ -4,5 +4,5 @@
 mod given;
 mod store;
 
-pub use given::{Given, StdStreams};
+pub use given::{Given, StdStreams, close};
 pub use store::Store;
