@@ -7,8 +7,8 @@ use Rattle.dp_viewer.proofs.reading.read_recording.Given as goal
 -- failed
 abbrev pub invariant-entries : goal.invariant-entries
 invariant-entries g l = record {
-  told : ShowsFirst l.fn.shown.due (g.I.Source.left l.fn.input) (g.I.Source.left l.input)
-      l.shown.board l.shown.due l.reader;
+  told : ShowsFirst l.fn.due (g.I.Source.left l.fn.input) (g.I.Source.left l.input)
+      l.board l.due l.reader;
   going : GoesOn l.reader;
   kept : g.I.Source.faults l.input ≡ g.I.Source.faults l.fn.input;
 }
