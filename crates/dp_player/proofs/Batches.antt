@@ -20,9 +20,9 @@ use Rattle.dp_savepoints.specs.Kept.{drawn_among}
 use Rattle.dp_savepoints.proofs.KeptLemmas.{fold-drawn}
 use Rattle.dp_trailing.specs.Trailing.{Trailing}
 use Rattle.dp_player.specs.declared.ahead.Ahead.{Ahead}
-use Rattle.dp_player.specs.Ahead.{EndsAfter, ShowsFirst, ShowsFirstOn, board_after, on_board}
+use Rattle.dp_player.specs.Ahead.{EndsAfter, ShowsFirstOn, board_after, on_board}
 use Rattle.dp_viewer.specs.Reading.{AreDue, EndsReading, FaultMatchesWay, ReadsToEnd}
-use Rattle.dp_viewer.specs.Reading.{TrailsShown}
+use Rattle.dp_viewer.specs.Reading.{ShowsFirst, TrailsShown}
 use Rattle.dp_viewer.specs.Ways.{Way, first_of}
 use Rattle.dp_viewer.proofs.Recordings.{shows-further}
 use Rattle.dp_viewer.proofs.Replaying.{kept_to_end}

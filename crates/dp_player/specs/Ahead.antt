@@ -1,19 +1,17 @@
 -- What is read of a recording ahead of what is drawn of it.
 use Rattle.std.specs.Prelude.{◌≡◌, ℕ, ◌<◌, Bool, true, false, List, Option, IfSome}
 use Rattle.std.specs.Io.KnownBytes.{IsAtEnd}
-use Rattle.dp_messages.specs.declared.message.Entry.{Entry}
 use Rattle.dp_msg_draw.specs.declared.draw.Draw.{Draw}
 use Rattle.dp_lines.specs.declared.run_end.RunEnd.{RunEnd}
 use Rattle.dp_lines.specs.declared.run_end.RunEnd.TheVariants.{Memory}
 use Rattle.dp_plain.specs.Board.{Board}
-use Rattle.dp_recording.specs.declared.reader.Phase.{Phase}
-use Rattle.dp_recording.specs.Recordings.{GoesOn, HasReadOf, measure_of}
+use Rattle.dp_recording.specs.Recordings.{GoesOn, measure_of}
 use Rattle.dp_trailing.specs.Trailing.{Trailing}
 use Rattle.dp_player.specs.declared.ahead.Ahead.{Ahead}
 use Rattle.dp_player.specs.declared.ahead.Batch.{Batch}
 use Rattle.dp_player.specs.declared.ahead.Batch.TheVariants.{More, Ended}
-use Rattle.dp_viewer.specs.Ways.{first_of, play_way}
-use Rattle.dp_viewer.specs.Reading.{AreDue, EndsReading, FaultMatchesWay, ReadsToEnd, TrailsShown}
+use Rattle.dp_viewer.specs.Ways.{play_way}
+use Rattle.dp_viewer.specs.Reading.{EndsReading, FaultMatchesWay, ReadsToEnd, ShowsFirst}
 
 -- with another board in the place of its own
 abbrev pub on_board : Board → Trailing Board Draw → Trailing Board Draw
@@ -25,15 +23,7 @@ abbrev pub board_after : Bool → Board → Trailing Board Draw → Board
 board_after false on t = on
 board_after true on t = t.board
 
--- What was read of an input whose bytes are known, of which those are left: the board trails what
--- the first entries show, so many or all, of those that a reader gave, and `due` are left to show.
-abbrev pub ShowsFirst : Option ℕ → Option (List ℕ) → Option (List ℕ) → Trailing Board Draw
-    → Option ℕ → Phase → Type 0
-ShowsFirst at input left board due reader =
-    IfSome input (λ bytes. (all : List Entry) × HasReadOf bytes left all reader
-    × TrailsShown board (first_of at all) × AreDue at all due)
-
--- the same where another board trails
+-- what was read of an input (`ShowsFirst`), where another board trails
 abbrev pub ShowsFirstOn : Option ℕ → Option (List ℕ) → Option (List ℕ) → Board → Ahead → Type 0
 ShowsFirstOn at input left on a = ShowsFirst at input left (on_board on a.board) a.due a.reader
 

@@ -6,8 +6,8 @@ ghost use Rattle.dp_viewer.specs.Pictures.{PictureLeaves};
 ghost use Rattle.dp_viewer.specs.Reading.{WritesShown};
 ghost use Rattle.dp_viewer.specs.Ways.{replay_way};
 
+use crate::ending::end_written;
 use crate::reading::{Reading, ShownBoard, blank_board, read_frames, reads_to_end};
-use crate::written::end_written;
 use dp_flat::write_p6;
 use dp_io::{Sink, Source};
 use dp_lines::RunEnd;

@@ -1,8 +1,8 @@
 use Rattle.dp_viewer.proofs.Written.{wrote}
 use Rattle.dp_viewer.proofs.pictures.write_shown.Goals as goal
 
-pub returns-in-Ok-clause-shown : goal.returns-in-Ok-clause-shown
-returns-in-Ok-clause-shown g c =
+pub returns-clause-shown : goal.returns-clause-shown
+returns-clause-shown g c =
     let wrote_so = c.write_p6-written in
     wrote (g.O.Sink.held c.args.output.now) (g.O.Sink.held wrote_so.new.out)
     (g.O.Sink.faults c.args.output.now) (g.O.Sink.faults wrote_so.new.out) c.args.board

@@ -1,6 +1,6 @@
 use Rattle.std.proofs.Common.{◌≡◌}
 use Rattle.dp_recording.specs.Recordings.{GoesOn, measure_of}
-use Rattle.dp_viewer.specs.Ahead.{ShowsFirst}
+use Rattle.dp_viewer.specs.Reading.{ShowsFirst}
 use Rattle.dp_viewer.proofs.reading.read_recording.Given as goal
 
 -- the board trails what the first entries show that the reader gave, it has not ended, and no read
