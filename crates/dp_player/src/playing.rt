@@ -25,8 +25,8 @@ use std::thread::Threads;
 ///
 /// # Errors
 ///
-/// As `run_replay` (dp_viewer), and with `BadHeader` if the input begins with no header. Places are counted
-/// from the input's start.
+/// As `run_replay` of dp_viewer, and with `BadHeader` if the input begins with no header. Places
+/// are counted from the input's start.
 ///
 /// The rule: docs/protocol.md, "Recordings".
 pub fn run_play<R: Threads + Sync, I: Source, O: Sink, G: Gate, D: Ledger + Send, T: Ledger + Send>(
