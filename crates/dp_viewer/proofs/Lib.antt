@@ -1,4 +1,3 @@
-pub mod Batches
 pub mod Inputs
 pub mod Recordings
 pub mod Replaying

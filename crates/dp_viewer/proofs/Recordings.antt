@@ -18,7 +18,7 @@ use Rattle.std.specs.Io.KnownBytes.{IsAtEnd}
 use Rattle.dp_msg_draw.specs.declared.draw.Draw.{Draw}
 use Rattle.dp_plain.specs.Board.{Board}
 use Rattle.dp_trailing.specs.Trailing.{Trailing}
-use Rattle.dp_viewer.specs.Ahead.{ShowsFirst}
+use Rattle.dp_viewer.specs.Reading.{ShowsFirst}
 use Rattle.dp_viewer.specs.Ways.{first_of, play_way}
 use Rattle.dp_viewer.specs.Reading.{AreDue, EndsReading, FaultMatchesWay, ReadsToEnd}
 use Rattle.dp_viewer.specs.Reading.{TrailsShown}

@@ -1,4 +1,3 @@
-pub mod Ahead
 pub mod Pictures
 pub mod Reading
 pub mod Ways

@@ -1,6 +1,6 @@
 -- What was read of an input, and what is written of it.
 use Rattle.std.specs.Prelude.{◌≡◌, ◌⊎◌, ℕ, ◌-◌, nat_lt, Bool, true, List, length, map, ⊤}
-use Rattle.std.specs.Prelude.{Option, Some, None}
+use Rattle.std.specs.Prelude.{Option, Some, None, IfSome}
 use Rattle.std.specs.Io.KnownBytes.{Appends, Keeps}
 use Rattle.std.specs.List.{after_last}
 use Rattle.std.specs.Option.{option_map}
@@ -16,8 +16,10 @@ use Rattle.dp_lines.specs.declared.run_end.RunEnd.{RunEnd}
 use Rattle.dp_lines.specs.declared.run_end.RunEnd.TheVariants.{Done, BadLine, ReadFault, WriteFault}
 use Rattle.dp_lines.specs.declared.run_end.RunEnd.TheVariants.{LinkFault, Memory, Long, Truncated}
 use Rattle.dp_lines.specs.declared.run_end.RunEnd.TheVariants.{BadMessage, Closed, BadHeader}
+use Rattle.dp_recording.specs.declared.reader.Phase.{Phase}
+use Rattle.dp_recording.specs.Recordings.{HasReadOf}
 use Rattle.dp_trailing.specs.Trailing.{Trailing, Trails}
-use Rattle.dp_viewer.specs.Ways.{Way}
+use Rattle.dp_viewer.specs.Ways.{Way, first_of}
 
 -- the board trails what these entries show: those after the last mark of a reset, from the empty
 -- board on
@@ -33,6 +35,14 @@ AreDue at entries due = due ≡ option_map (λ n. n - length entries) at
 abbrev pub is_due : Option ℕ → Bool
 is_due None = true
 is_due (Some n) = nat_lt 0 n
+
+-- What was read of an input whose bytes are known, of which those are left: the board trails what
+-- the first entries show, so many or all, of those that a reader gave, and `due` are left to show.
+abbrev pub ShowsFirst : Option ℕ → Option (List ℕ) → Option (List ℕ) → Trailing Board Draw
+    → Option ℕ → Phase → Type 0
+ShowsFirst at input left board due reader =
+    IfSome input (λ bytes. (all : List Entry) × HasReadOf bytes left all reader
+    × TrailsShown board (first_of at all) × AreDue at all due)
 
 -- How reading an input ended of which these bytes are left, if the board trails what it shows:
 -- by its bytes, with a piece at most after what holds no cause; by a fault, with nothing after it;

@@ -9,51 +9,49 @@ ghost use Rattle.dp_viewer.specs.Reading.{FaultMatchesWay, EndsReading, ReadsToE
 ghost use Rattle.dp_viewer.specs.Reading.{AreDue, TrailsShown, is_due};
 ghost use Rattle.dp_viewer.specs.Ways.{first_of, play_way, replay_way};
 
-use crate::workers::WorkersBoard;
-use dp_canvas::DeferredBoard;
 use dp_entries::{Anywhere, EntryReader};
 use dp_io::Source;
+use dp_layered::LayeredBoard;
 use dp_lines::RunEnd;
 use dp_messages::Entry;
+use dp_plain::LayerPixels;
 use dp_recording::RecordingReader;
 use dp_replay::{UNDO_DEPTH, act_of_entry};
 use dp_steps::Steps;
 use dp_trailing::TrailingBoard;
-use dp_wire::Gate;
 use std::alloc::{AllocError, Global};
 use std::mem::replace;
 use std::sync::ledger::Ledger;
-use std::thread::Threads;
 
 /// How many bytes of the input of `replay` count: 1 GiB.
 const INPUT_LIMIT: u64 = 1 << 30;
 
-/// A board that trails what an input shows.
-pub(crate) type ShownBoard = TrailingBoard<DeferredBoard>;
+/// A board that trails what an input shows, whose layers hold pixels of one kind.
+pub type ShownBoard<P> = TrailingBoard<LayeredBoard<P>>;
 
 /// The board of what the input shows, and how reading it ended.
 #[derive(Drop)]
-pub(crate) struct Reading {
-    pub board: ShownBoard,
+pub(crate) struct Reading<P: LayerPixels> {
+    pub board: ShownBoard<P>,
     pub end: RunEnd,
 }
 
 /// The board of no entries.
-pub(crate) fn blank_board(alloc: Global) -> Result<ShownBoard, AllocError>
+pub fn blank_board<P: LayerPixels>(alloc: Global) -> Result<ShownBoard<P>, AllocError>
     ensures { IfOk result (λ board. TrailsShown board []) }
 {
-    TrailingBoard::new(alloc, UNDO_DEPTH, DeferredBoard::new(alloc))
+    TrailingBoard::new(alloc, UNDO_DEPTH, LayeredBoard::new(alloc))
 }
 
 /// Reads frames to the input's end, to the first that carries nothing, or to the limit. What they
 /// show is drawn on the board of no entries.
-pub(crate) fn read_frames<I: Source, D: Ledger, T: Ledger>(
+pub(crate) fn read_frames<P: LayerPixels, I: Source, D: Ledger, T: Ledger>(
     alloc: Global,
     input: &mut I,
-    mut board: ShownBoard,
+    mut board: ShownBoard<P>,
     draws: &mut Steps<D>,
     tiles: &mut Steps<T>,
-) -> Reading
+) -> Reading<P>
     requires { TrailsShown board [] }
     ensures told { IfSome (I.left input.old) (λ bytes.
         EndsReading replay_way bytes (I.left input.new) result.board result.end) }
@@ -94,7 +92,10 @@ pub(crate) fn read_frames<I: Source, D: Ledger, T: Ledger>(
 }
 
 /// Begins anew: the board of no entries in the place of this one.
-pub(crate) fn begin_anew(alloc: Global, board: &mut ShownBoard) -> Result<(), AllocError>
+pub fn begin_anew<P: LayerPixels>(
+    alloc: Global,
+    board: &mut ShownBoard<P>,
+) -> Result<(), AllocError>
     ensures { OnOk result (TrailsShown board.new []) }
 {
     let blank = blank_board(alloc)?;
@@ -104,9 +105,9 @@ pub(crate) fn begin_anew(alloc: Global, board: &mut ShownBoard) -> Result<(), Al
 
 /// Shows the next entry. A mark of a reset begins anew: all before it shows nothing from there on.
 #[inline(always)]
-fn show<D: Ledger, T: Ledger>(
+fn show<P: LayerPixels, D: Ledger, T: Ledger>(
     alloc: Global,
-    board: &mut ShownBoard,
+    board: &mut ShownBoard<P>,
     entry: Entry,
     draws: &mut Steps<D>,
     tiles: &mut Steps<T>,
@@ -124,17 +125,18 @@ fn show<D: Ledger, T: Ledger>(
 
 /// Reads a recording in the same way. Of its entries the first are shown, as many as are due, or
 /// all. Those after them are read all the same.
-pub(crate) fn read_recording<R: Threads + Sync, I: Source, G: Gate, D: Ledger, T: Ledger>(
+pub fn read_recording<P: LayerPixels, I: Source, D: Ledger, T: Ledger>(
     alloc: Global,
     input: &mut I,
-    shown: &mut WorkersBoard<'_, R, G>,
+    board: &mut ShownBoard<P>,
+    due: &mut Option<u32>,
     draws: &mut Steps<D>,
     tiles: &mut Steps<T>,
 ) -> RunEnd
-    requires { TrailsShown shown.old.board [] }
+    requires { TrailsShown board.old [] }
     ensures told { IfSome (I.left input.old) (λ bytes.
-        EndsReading (play_way shown.old.due) bytes (I.left input.new) shown.new.board result) }
-    ensures fault { FaultMatchesWay (play_way shown.old.due) (I.faults input.old)
+        EndsReading (play_way due.old) bytes (I.left input.new) board.new result) }
+    ensures fault { FaultMatchesWay (play_way due.old) (I.faults input.old)
         (I.faults input.new) result }
     ensures later { I.faults input.old ≤ I.faults input.new }
     ensures to_end { ReadsToEnd result → IsAtEnd (I.left input.new) }
@@ -152,7 +154,7 @@ pub(crate) fn read_recording<R: Threads + Sync, I: Source, G: Gate, D: Ledger, T
                 return error.run_end();
             }
         };
-        if show_due(alloc, &mut shown.board, &mut shown.due, entry, draws, tiles).is_err() {
+        if show_due(alloc, board, due, entry, draws, tiles).is_err() {
             drop(reader);
             return RunEnd::Memory;
         }
@@ -161,9 +163,9 @@ pub(crate) fn read_recording<R: Threads + Sync, I: Source, G: Gate, D: Ledger, T
 
 /// Shows the next entry if it is one of the first, of which `due` are left to show, or of all.
 #[inline(always)]
-fn show_due<D: Ledger, T: Ledger>(
+fn show_due<P: LayerPixels, D: Ledger, T: Ledger>(
     alloc: Global,
-    board: &mut ShownBoard,
+    board: &mut ShownBoard<P>,
     due: &mut Option<u32>,
     entry: Entry,
     draws: &mut Steps<D>,
@@ -184,7 +186,7 @@ fn show_due<D: Ledger, T: Ledger>(
 }
 
 /// Whether one more entry is shown if `due` are left to show, or all. It is one less then.
-pub(crate) fn take_due(due: &mut Option<u32>) -> bool
+pub fn take_due(due: &mut Option<u32>) -> bool
     ensures value { result ≡ is_due due.old }
     ensures left { due.new ≡ option_map (λ n. n - 1) due.old }
 {
@@ -199,7 +201,7 @@ pub(crate) fn take_due(due: &mut Option<u32>) -> bool
 }
 
 /// Whether the input is read to its end if reading it ends with this.
-pub(crate) fn reads_to_end(end: RunEnd) -> bool
+pub fn reads_to_end(end: RunEnd) -> bool
     ensures yes { result ≡ true → ReadsToEnd end }
     ensures no { ReadsToEnd end → result ≡ true }
 {

@@ -1,25 +1,12 @@
-use Rattle.std.proofs.Common.{subst}
-use Rattle.std.specs.Bool.{OnTrue}
-use Rattle.dp_shown.specs.Ends.{is_sink_fault}
-use Rattle.dp_shown.specs.declared.end.PictureEnd.{PictureEnd}
-use Rattle.dp_io.specs.Faults.{Rose}
-use Rattle.dp_viewer.proofs.Written.{wrote-part, wrote-whole}
+use Rattle.dp_viewer.proofs.Written.{wrote}
 use Rattle.dp_viewer.proofs.pictures.write_shown.Goals as goal
 
-pub returns-in-Ok-write_p6-clause-shown : goal.returns-in-Ok-write_p6-clause-shown
-returns-in-Ok-write_p6-clause-shown g c =
-    wrote-whole (g.O.Sink.held c.args.output.now) (g.O.Sink.held c.write_p6.new.out)
-    (g.O.Sink.faults c.args.output.now) (g.O.Sink.faults c.write_p6.new.out) c.args.board
-    c.in-Ok.picture c.args.end c.in-Ok.ensures.replay c.in-Ok-write_p6.ensures.written
-    c.in-Ok-write_p6.ensures.cause.kept
-
-pub returns-in-Err-Failed-clause-shown : goal.returns-in-Err-Failed-clause-shown
-returns-in-Err-Failed-clause-shown g c =
-    let before = g.O.Sink.faults c.args.output.now in
-    let now = g.O.Sink.faults c.write_p6.new.out in
-    let rose : Rose before now =
-    subst (λ (e : PictureEnd). OnTrue (is_sink_fault e) (Rose before now))
-    c.in-Err-Failed.field-0-is c.in-Err-Failed.ensures.cause.failed in
-    wrote-part (g.O.Sink.held c.args.output.now) (g.O.Sink.held c.write_p6.new.out) before now
-    c.args.board c.in-Ok.picture c.args.end c.in-Ok.ensures.replay
-    c.in-Err-Failed.ensures.prefix rose
+pub returns-clause-shown : goal.returns-clause-shown
+returns-clause-shown g c =
+    let wrote_so = c.write_p6-written in
+    wrote (g.O.Sink.held c.args.output.now) (g.O.Sink.held wrote_so.new.out)
+    (g.O.Sink.faults c.args.output.now) (g.O.Sink.faults wrote_so.new.out) c.args.board
+    c.in-Ok.picture c.args.end c.in-Ok.ensures.replay wrote_so.result c.end_written.result
+    wrote_so.ensures.written wrote_so.ensures.prefix wrote_so.ensures.memory
+    wrote_so.ensures.memory_uncounted wrote_so.ensures.cause c.end_written.ensures.whole
+    c.end_written.ensures.failed c.end_written.ensures.memory

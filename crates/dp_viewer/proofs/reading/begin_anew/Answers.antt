@@ -6,6 +6,6 @@ use Rattle.dp_viewer.specs.Reading.{TrailsShown}
 use Rattle.dp_viewer.proofs.reading.begin_anew.Goals as goal
 
 pub returns : goal.returns
-returns c =
+returns g c =
     subst (λ (b : Trailing Board Draw). TrailsShown b []) (sym c.replace.ensures.after)
     c.in_ok-blank.ensures

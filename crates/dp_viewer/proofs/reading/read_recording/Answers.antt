@@ -6,8 +6,8 @@ use Rattle.dp_viewer.proofs.reading.read_recording.Goals as goal
 pub entries-init : goal.entries-init
 entries-init g c = record {
   told =
-      shows-first c.args.shown.now.due (g.I.Source.left c.args.input.now)
-      c.args.shown.now.board c.new-reader.result c.requires c.new-reader.ensures;
+      shows-first c.args.due.now (g.I.Source.left c.args.input.now)
+      c.args.board.now c.new-reader.result c.requires c.new-reader.ensures;
   going = rw c.new-reader.ensures tt;
   kept = refl;
 }
@@ -19,9 +19,9 @@ entries-preserved g c =
     c.if-is_err.false c.show_due.ensures.shown in
     record {
       told =
-          shows-further c.args.shown.now.due (g.I.Source.left c.args.input.now)
+          shows-further c.args.due.now (g.I.Source.left c.args.input.now)
           (g.I.Source.left c.entries.input) (g.I.Source.left c.next.new.input)
-          c.entries.shown.board c.show_due.new.board c.entries.shown.due c.show_due.new.due
+          c.entries.board c.show_due.new.board c.entries.due c.show_due.new.due
           c.in-Ok-Some.entry c.entries.reader c.next.new.self gives.read shown
           c.show_due.ensures.left c.entries.invariant.told;
       going = gives.goes_on;
@@ -36,9 +36,9 @@ entries-smaller g c =
 pub returns-in-Ok-None-clause-told : goal.returns-in-Ok-None-clause-told
 returns-in-Ok-None-clause-told g c =
     let none = rw c.in-Ok-None.field-0-is at c.in-Ok-None.ensures.pulled in
-    shows-done c.args.shown.now.due (g.I.Source.left c.args.input.now)
-    (g.I.Source.left c.entries.input) (g.I.Source.left c.next.new.input) c.entries.shown.board
-    c.entries.shown.due c.entries.reader none.read
+    shows-done c.args.due.now (g.I.Source.left c.args.input.now)
+    (g.I.Source.left c.entries.input) (g.I.Source.left c.next.new.input) c.entries.board
+    c.entries.due c.entries.reader none.read
     c.entries.invariant.told
 
 pub returns-in-Ok-None-clause-fault : goal.returns-in-Ok-None-clause-fault
@@ -54,15 +54,15 @@ returns-in-Ok-None-clause-to_end g c =
 pub returns-in-Err-clause-told : goal.returns-in-Err-clause-told
 returns-in-Err-clause-told g c =
     rw c.run_end.ensures
-    (shows-end c.args.shown.now.due (g.I.Source.left c.args.input.now)
-    (g.I.Source.left c.entries.input) (g.I.Source.left c.next.new.input) c.entries.shown.board
-    c.entries.shown.due c.entries.reader c.in-Err.error
+    (shows-end c.args.due.now (g.I.Source.left c.args.input.now)
+    (g.I.Source.left c.entries.input) (g.I.Source.left c.next.new.input) c.entries.board
+    c.entries.due c.entries.reader c.in-Err.error
     c.in-Err.ensures.pulled.ends c.entries.invariant.told)
 
 pub returns-in-Err-clause-fault : goal.returns-in-Err-clause-fault
 returns-in-Err-clause-fault g c =
     rw c.run_end.ensures
-    (fault_matches-going c.args.shown.now.due _ _ _ c.entries.reader c.in-Err.error
+    (fault_matches-going c.args.due.now _ _ _ c.entries.reader c.in-Err.error
     c.entries.invariant.going (rw c.entries.invariant.kept at c.in-Err.ensures.pulled.cause))
 
 pub returns-in-Err-clause-to_end : goal.returns-in-Err-clause-to_end
