@@ -6,14 +6,16 @@ ghost use Rattle.dp_line_machine.specs.Counters.{counters};
 ghost use Rattle.dp_local.specs.Runs.{run_of};
 
 use crate::host::Host;
+use dp_canvas::DeferredPixels;
 use dp_drill::{Drill, run_drill};
 use dp_io::{Sink, Source};
 use dp_lines::RunEnd;
 use dp_par::Workers;
+use dp_player::{Playing, run_play};
 use dp_sim::ScheduleWorld;
 use dp_steps::Steps;
 use dp_sure_session::SureSession;
-use dp_viewer::{Playing, run_play, run_replay};
+use dp_viewer::run_replay;
 use dp_wire::Gate;
 use dp_words::LocalCommand;
 use dp_world::run_world;
@@ -49,7 +51,9 @@ pub fn run_local<
 {
     let Host { rt, alloc, gate } = host;
     match command {
-        LocalCommand::Replay => run_replay(alloc, input, output, draws, tiles),
+        LocalCommand::Replay => {
+            run_replay::<DeferredPixels, I, O, D, T>(alloc, input, output, draws, tiles)
+        }
         LocalCommand::World => run_world::<W, I, O, D, T>(alloc, input, output, draws, tiles),
         LocalCommand::Play { at, workers } => {
             let (at, workers) = (*at, *workers);
