@@ -31,7 +31,6 @@ use std::thread::Threads;
 
 /// The board that is drawn on. It is seen as a `Board` of the definitions. Its layers are grids of
 /// tiles, which canvases that were shared have in common until one of them is drawn on.
-#[derive(Drop)]
 pub struct Canvas {
     board: LayeredBoard<TiledPixels>,
 }
@@ -42,6 +41,14 @@ impl Model for Canvas {
     ghost Value = { Board };
 
     ghost view = { λ c. c.board };
+}
+
+// It is written out, so that it is only called where a canvas is let go.
+impl Drop for Canvas {
+    fn drop(self) {
+        let Canvas { board } = self;
+        drop(board);
+    }
 }
 
 impl Canvas {

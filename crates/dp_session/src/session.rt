@@ -20,7 +20,6 @@ use std::marker::Model;
 /// it, each of which is a row of the store. Contracts see it as its past.
 ///
 /// The rule: docs/protocol.md, "The session".
-#[derive(Drop)]
 pub struct Session<K: Keeper> {
     pub(crate) keeper: K,
     pub(crate) tables: Tables,
@@ -35,6 +34,19 @@ impl<K: Keeper> Model for Session<K> {
 
     ghost view = { λ s. past_of s.tables s.first_fault (K.held s.keeper) (K.put_faults s.keeper)
         (K.read_faults s.keeper) };
+}
+
+// It is written out, so that it is only called where a session is let go.
+impl<K: Keeper + Drop> Drop for Session<K> {
+    fn drop(self) {
+        let Session {
+            keeper,
+            tables,
+            first_fault: _,
+        } = self;
+        drop(keeper);
+        drop(tables);
+    }
 }
 
 /// Does what became of the row of an event that is ready.

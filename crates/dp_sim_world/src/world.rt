@@ -28,7 +28,6 @@ use std::sync::ledger::Ledger;
 /// joins, numbered from 1. They draw on boards of one type.
 ///
 /// The rule: docs/protocol.md, "The world".
-#[derive(Drop)]
 pub struct World<S: SureSession, B: ClientBoard> {
     session: S,
     participants: Vec<Participant<B>>,
@@ -41,6 +40,19 @@ impl<S: SureSession, B: ClientBoard> Model for World<S, B> {
     ghost Value = { Seen };
 
     ghost view = { λ w. record { past = S.past w.session; participants = w.participants.items } };
+}
+
+// It is written out, so that it is only called where a world is let go.
+impl<S: SureSession, B: ClientBoard> Drop for World<S, B> {
+    fn drop(self) {
+        let World {
+            session,
+            participants,
+            alloc: _,
+        } = self;
+        drop(session);
+        drop(participants);
+    }
 }
 
 impl<S: SureSession, B: ClientBoard> World<S, B> {
