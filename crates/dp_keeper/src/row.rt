@@ -9,11 +9,18 @@ use std::alloc::AllocError;
 pub type RowBytes = Listed<u8>;
 
 /// A row of a store.
-#[derive(Debug, Drop)]
+#[derive(Debug)]
 pub struct Row {
     /// Its number, from 0.
     pub n: u64,
     pub bytes: RowBytes,
+}
+
+impl Drop for Row {
+    fn drop(self) {
+        let Row { n: _, bytes } = self;
+        drop(bytes);
+    }
 }
 
 impl Clone for Row {

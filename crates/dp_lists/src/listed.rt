@@ -7,9 +7,16 @@ use std::alloc::{AllocError, Global};
 use std::marker::Model;
 
 /// Items in order. Contracts see them as that list, and not as a vector with its capacity.
-#[derive(Debug, Drop)]
+#[derive(Debug)]
 pub struct Listed<T> {
     entries: Vec<T>,
+}
+
+impl<T: Drop> Drop for Listed<T> {
+    fn drop(self) {
+        let Listed { entries } = self;
+        drop(entries);
+    }
 }
 
 impl<T> Model for Listed<T> {

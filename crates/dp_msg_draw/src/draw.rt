@@ -12,12 +12,21 @@ use std::alloc::AllocError;
 use std::fmt;
 
 /// What a tile is filled with.
-#[derive(Debug, Drop, PartialEq)]
+#[derive(Debug, PartialEq)]
 pub enum TileContent {
     /// Each pixel is this one.
     Solid(TilePixel),
     /// The pixels, row by row.
     Pixels(TilePixels),
+}
+
+impl Drop for TileContent {
+    fn drop(self) {
+        match self {
+            TileContent::Solid(_) => {}
+            TileContent::Pixels(pixels) => drop(pixels),
+        }
+    }
 }
 
 /// A drawing message. Each is relayed to everybody and drawn by each client.

@@ -14,9 +14,16 @@ use std::alloc::{AllocError, Global};
 use std::marker::Model;
 
 /// The title of a layer: at most 255 bytes of UTF-8.
-#[derive(Debug, Drop)]
+#[derive(Debug)]
 pub struct Title {
     bytes: Vec<u8>,
+}
+
+impl Drop for Title {
+    fn drop(self) {
+        let Title { bytes } = self;
+        drop(bytes);
+    }
 }
 
 impl Model for Title {
@@ -108,9 +115,16 @@ pub struct Dab {
 }
 
 /// At most 16,380 dabs.
-#[derive(Debug, Drop)]
+#[derive(Debug)]
 pub struct Dabs {
     dabs: Vec<Dab>,
+}
+
+impl Drop for Dabs {
+    fn drop(self) {
+        let Dabs { dabs } = self;
+        drop(dabs);
+    }
 }
 
 impl Model for Dabs {
@@ -170,9 +184,16 @@ impl PartialEq for Dabs {
 }
 
 /// At most 16,379 colours, each an ARGB number with alpha in its highest byte.
-#[derive(Debug, Drop)]
+#[derive(Debug)]
 pub struct Colors {
     colors: Vec<u32>,
+}
+
+impl Drop for Colors {
+    fn drop(self) {
+        let Colors { colors } = self;
+        drop(colors);
+    }
 }
 
 impl Model for Colors {
@@ -241,9 +262,16 @@ pub struct TilePixel {
 }
 
 /// The 4096 pixels of a tile, row by row.
-#[derive(Debug, Drop)]
+#[derive(Debug)]
 pub struct TilePixels {
     pixels: Vec<TilePixel>,
+}
+
+impl Drop for TilePixels {
+    fn drop(self) {
+        let TilePixels { pixels } = self;
+        drop(pixels);
+    }
 }
 
 impl Model for TilePixels {

@@ -12,9 +12,16 @@ use std::alloc::{AllocError, Global};
 use std::marker::Model;
 
 /// User ids, at most 255 of them.
-#[derive(Debug, Drop)]
+#[derive(Debug)]
 pub struct Ids {
     ids: Vec<u8>,
+}
+
+impl Drop for Ids {
+    fn drop(self) {
+        let Ids { ids } = self;
+        drop(ids);
+    }
 }
 
 impl Model for Ids {
@@ -72,9 +79,16 @@ impl PartialEq for Ids {
 }
 
 /// The name of a Hello: any bytes, at most 32 of them.
-#[derive(Debug, Drop)]
+#[derive(Debug)]
 pub struct NameBytes {
     bytes: Vec<u8>,
+}
+
+impl Drop for NameBytes {
+    fn drop(self) {
+        let NameBytes { bytes } = self;
+        drop(bytes);
+    }
 }
 
 impl Model for NameBytes {
@@ -132,9 +146,16 @@ impl PartialEq for NameBytes {
 }
 
 /// A text: UTF-8, at most 65,535 bytes of it.
-#[derive(Debug, Drop)]
+#[derive(Debug)]
 pub struct Text {
     text: String,
+}
+
+impl Drop for Text {
+    fn drop(self) {
+        let Text { text } = self;
+        drop(text);
+    }
 }
 
 impl Model for Text {

@@ -18,19 +18,38 @@ use std::marker::Model;
 use std::net::{Net, TcpListener, TcpStream};
 
 /// Where the links of a wire come from.
-#[derive(Drop)]
 enum Place {
     Listening(TcpListener),
     Dialing(String),
 }
 
+impl Drop for Place {
+    fn drop(self) {
+        match self {
+            Place::Listening(listener) => drop(listener),
+            Place::Dialing(addr) => drop(addr),
+        }
+    }
+}
+
 /// A wire over TCP. It listens at an address and accepts the links that peers open, or it dials an
 /// address. Its links are not known to contracts.
-#[derive(Drop)]
 pub struct TcpWire<N> {
     net: N,
     place: Place,
     faults: u64,
+}
+
+impl<N: Drop> Drop for TcpWire<N> {
+    fn drop(self) {
+        let TcpWire {
+            net,
+            place,
+            faults: _,
+        } = self;
+        drop(net);
+        drop(place);
+    }
 }
 
 impl<N> Model for TcpWire<N> {
