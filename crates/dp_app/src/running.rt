@@ -15,6 +15,7 @@ use dp_endings::Ending;
 use dp_io::{Sink, Source};
 use dp_keeper::{Keeper, SureKeeper};
 use dp_local::{Host, run_local};
+use dp_script::Script;
 use dp_session::Session;
 use dp_sim_world::World;
 use dp_steps::Steps;
@@ -105,12 +106,12 @@ fn run_command<
 {
     match command {
         CommandLine::Local(command) => {
-            let end = run_local::<CanvasWorld, SureEvents, R, I, O, G, D, T>(
+            let end = run_local::<Script, CanvasWorld, SureEvents, R, I, O, G, D, T>(
                 host, command, input, output, draws, tiles,
             );
             Ran::without(host.alloc, Ending::Run(end), resources)
         }
-        CommandLine::Join { addr: _, name } => run_link::<Canvas, I, O, W, K, D, T>(
+        CommandLine::Join { addr: _, name } => run_link::<Script, Canvas, I, O, W, K, D, T>(
             host.alloc, name, input, output, resources, draws, tiles,
         ),
         CommandLine::Listen {

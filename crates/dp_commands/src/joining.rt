@@ -11,6 +11,7 @@ use dp_endings::Ending;
 use dp_io::{Sink, Source};
 use dp_joining::run_join;
 use dp_keeper::Keeper;
+use dp_line_machine::LineRunner;
 use dp_msg_meta::Text;
 use dp_shown::ClientBoard;
 use dp_steps::Steps;
@@ -18,8 +19,18 @@ use dp_wire::Wire;
 use std::alloc::Global;
 use std::sync::ledger::Ledger;
 
-/// Joins a session over the first of the wires, if there is one, and gives the wires back.
-pub fn run_link<B: ClientBoard, I: Source, O: Sink, W: Wire, K: Keeper, D: Ledger, T: Ledger>(
+/// Joins a session over the first of the wires, if there is one, and gives the wires back. `L` reads
+/// the script.
+pub fn run_link<
+    L: LineRunner,
+    B: ClientBoard,
+    I: Source,
+    O: Sink,
+    W: Wire,
+    K: Keeper,
+    D: Ledger,
+    T: Ledger,
+>(
     alloc: Global,
     name: &Text,
     input: &mut I,
@@ -42,14 +53,14 @@ pub fn run_link<B: ClientBoard, I: Source, O: Sink, W: Wire, K: Keeper, D: Ledge
     ensures output_later { O.faults output.old ≤ O.faults output.new }
 {
     let Resources { mut wires, keeper } = resources;
-    let ending = join_first::<B, I, O, W, D, T>(
+    let ending = join_first::<L, B, I, O, W, D, T>(
         alloc, name, input, output, &mut wires, draws, tiles,
     );
     Ran::without(alloc, ending, Resources { wires, keeper })
 }
 
 /// Joins a session over the first of the wires, if there is one.
-fn join_first<B: ClientBoard, I: Source, O: Sink, W: Wire, D: Ledger, T: Ledger>(
+fn join_first<L: LineRunner, B: ClientBoard, I: Source, O: Sink, W: Wire, D: Ledger, T: Ledger>(
     alloc: Global,
     name: &Text,
     input: &mut I,
@@ -69,7 +80,7 @@ fn join_first<B: ClientBoard, I: Source, O: Sink, W: Wire, D: Ledger, T: Ledger>
     ensures output_later { O.faults output.old ≤ O.faults output.new }
 {
     match wires.first_mut() {
-        Some(wire) => Ending::Run(run_join::<B, I, O, W, D, T>(
+        Some(wire) => Ending::Run(run_join::<L, B, I, O, W, D, T>(
             alloc, name, wire, input, output, draws, tiles,
         )),
         None => Ending::NoLink,

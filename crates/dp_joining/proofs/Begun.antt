@@ -19,7 +19,7 @@ use Rattle.dp_pixels.specs.Feet.{reach}
 use Rattle.dp_schedule.specs.declared.join_action.JoinAction.{JoinAction}
 use Rattle.dp_screen.proofs.Leads.{counts_first}
 use Rattle.dp_line_machine.specs.Counters.{Counters}
-use Rattle.dp_script.specs.Leaves.{AreFirstOf}
+use Rattle.dp_line_machine.specs.Leaves.{AreFirstOf}
 use Rattle.dp_line_machine.specs.Limits.{lines_limit}
 use Rattle.dp_join_link.specs.declared.stops.LinkCause.{LinkCause}
 use Rattle.dp_joiner.specs.Joining.{Joining, Progress, Goes, Waits, came_to, joined}

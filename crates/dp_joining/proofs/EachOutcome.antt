@@ -13,7 +13,7 @@ use Rattle.dp_lines.specs.Ends.{AreSteps, LinesComeTo, LinesEnd, StopsAt, seen}
 use Rattle.dp_lines.specs.Ends as ends
 use Rattle.dp_messages.specs.declared.message.Entry.{Entry}
 use Rattle.dp_schedule.specs.declared.join_action.JoinAction.{JoinAction}
-use Rattle.dp_script.specs.Leaves.{AreFirstOf}
+use Rattle.dp_line_machine.specs.Leaves.{AreFirstOf}
 use Rattle.dp_line_machine.specs.Limits.{lines_limit}
 use Rattle.dp_io.specs.Limits.{stream_limit}
 use Rattle.dp_join_link.specs.declared.stops.LinkCause.{LinkCause}

@@ -22,7 +22,7 @@ use Rattle.dp_line_machine.specs.declared.machine.ScriptEnd.TheVariants.{Done, B
 use Rattle.dp_line_machine.specs.declared.machine.ScriptEnd.TheVariants.{Long, Memory, Ended}
 use Rattle.dp_line_machine.specs.Counters.{Counters, counters}
 use Rattle.dp_line_machine.specs.Ends.{FaultMatchesInput}
-use Rattle.dp_script.specs.Leaves.{HoldsLines, AreFirstOf, IsNextOf, ScriptLeaves}
+use Rattle.dp_line_machine.specs.Leaves.{HoldsLines, AreFirstOf, IsNextOf, ScriptLeaves}
 use Rattle.dp_line_machine.specs.Moments.{Moment}
 use Rattle.dp_lines.specs.TakenParts.{TookWithin}
 use Rattle.dp_join_link.specs.declared.stops.JoinStop.{JoinStop}

@@ -14,7 +14,7 @@ use Rattle.dp_lines.specs.Ends.{AreSteps, seen}
 use Rattle.dp_lines.specs.Lines.{ended, is_overlong, numbered, open_rest}
 use Rattle.dp_pixels.specs.Feet.{reach}
 use Rattle.dp_line_machine.specs.Counters.{Counters, NothingIsDrawn}
-use Rattle.dp_script.specs.Leaves.{AreFirstOf}
+use Rattle.dp_line_machine.specs.Leaves.{AreFirstOf}
 use Rattle.dp_wire.specs.Links.{HandsOut, Links, WhereKnown as WhereLinks}
 use Rattle.dp_joining.specs.Runs.{Returns}
 use Rattle.dp_join_link.specs.declared.stops.JoinStop.{JoinStop}

@@ -16,7 +16,7 @@ use Rattle.dp_lines.specs.Ends.{LinesComeTo, seen}
 use Rattle.dp_lines.specs.Ends as ends
 use Rattle.dp_schedule.specs.declared.join_action.JoinAction.{JoinAction}
 use Rattle.dp_line_machine.specs.Counters.{Counters}
-use Rattle.dp_script.specs.Leaves.{HoldsLines, HoldsNoCause, AreFirstOf}
+use Rattle.dp_line_machine.specs.Leaves.{HoldsLines, HoldsNoCause, AreFirstOf}
 use Rattle.dp_lines.specs.TakenParts.{TookWithin}
 use Rattle.dp_line_machine.specs.Limits.{lines_limit}
 use Rattle.dp_joiner.specs.Joining.{Joining, Progress, Goes, came_to, greeted, joined, newcomer}

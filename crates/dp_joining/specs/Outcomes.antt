@@ -9,7 +9,7 @@ use Rattle.dp_lines.specs.Ends.{LinesComeTo, LinesEnd, seen}
 use Rattle.dp_lines.specs.Ends as ends
 use Rattle.dp_schedule.specs.declared.join_action.JoinAction.{JoinAction}
 use Rattle.dp_schedule.specs.JoinGrammar.{Asks}
-use Rattle.dp_script.specs.Leaves.{AreFirstOf}
+use Rattle.dp_line_machine.specs.Leaves.{AreFirstOf}
 use Rattle.dp_join_link.specs.declared.stops.LinkCause.{LinkCause}
 use Rattle.dp_joiner.specs.Joining.{Joining, Goes, Waits, joined}
 use Rattle.dp_join_link.specs.Sent.{farewell_bytes}

@@ -13,10 +13,9 @@ use crate::machine::JoinMachine;
 use dp_io::{Sink, Source};
 use dp_join_link::JoinStop;
 use dp_joiner::{Joiner, greet};
-use dp_line_machine::ScriptEnd;
+use dp_line_machine::{LineRunner, ScriptEnd};
 use dp_lines::{RunEnd, further_step, whole_lines};
 use dp_msg_meta::Text;
-use dp_script::run_lines;
 use dp_shown::ClientBoard;
 use dp_steps::Steps;
 use std::alloc::Global;
@@ -34,7 +33,7 @@ pub struct Joined<R, S> {
 }
 
 /// Greets the server at the other end of a link by a name of at most 32 bytes. Then it does the
-/// lines of a script, one after the other. The client draws on boards of the type `B`. What a line
+/// lines of a script, one after the other. The client draws on boards of the type `B`, and `L` reads the script. What a line
 /// writes to the link is written before what it prints, and both before the next line is done. At
 /// the script's end it says that it leaves.
 ///
@@ -47,6 +46,7 @@ pub struct Joined<R, S> {
 ///
 /// The rule: docs/protocol.md, "Joining".
 pub fn join_link<
+    L: LineRunner,
     B: ClientBoard,
     I: Source,
     O: Sink,
@@ -95,7 +95,7 @@ pub fn join_link<
     match greet::<B, R, S>(alloc, name, &mut rx, &mut tx) {
         Ok(greeting) => {
             let joiner = Joiner::new(alloc, greeting, rx, tx);
-            do_script(joiner, input, output, draws, tiles)
+            do_script::<L, B, I, O, R, S, D, T>(joiner, input, output, draws, tiles)
         }
         Err(stop) => {
             let end = stop.run_end();
@@ -106,6 +106,7 @@ pub fn join_link<
 
 /// Does the lines of the script, and says that the client leaves.
 fn do_script<
+    L: LineRunner,
     B: ClientBoard,
     I: Source,
     O: Sink,
@@ -158,7 +159,7 @@ fn do_script<
     further_step::<JoinMachine<B, R, S>>();
     let alloc = joiner.alloc();
     let mut machine = JoinMachine { joiner };
-    let ended = run_lines(
+    let ended = L::run_lines(
         alloc,
         SCRIPT_LIMIT,
         input,

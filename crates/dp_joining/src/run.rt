@@ -7,6 +7,7 @@ ghost use Rattle.dp_line_machine.specs.Counters.{counters};
 use crate::laws::begun_is_due;
 use crate::link::{Joined, join_link};
 use dp_io::{Sink, Source};
+use dp_line_machine::LineRunner;
 use dp_lines::RunEnd;
 use dp_msg_meta::Text;
 use dp_shown::ClientBoard;
@@ -16,7 +17,8 @@ use std::alloc::Global;
 use std::sync::ledger::Ledger;
 
 /// Dials a link on the wire, joins the session at its other end as `join_link` does, and hands the
-/// link back, however the run ends. The client draws on boards of the type `B`.
+/// link back, however the run ends. The client draws on boards of the type `B`,
+/// and `L` reads its script.
 ///
 /// # Errors
 ///
@@ -24,7 +26,7 @@ use std::sync::ledger::Ledger;
 /// ends as `join_link`.
 ///
 /// The rule: docs/protocol.md, "Joining".
-pub fn run_join<B: ClientBoard, I: Source, O: Sink, W: Wire, D: Ledger, T: Ledger>(
+pub fn run_join<L: LineRunner, B: ClientBoard, I: Source, O: Sink, W: Wire, D: Ledger, T: Ledger>(
     alloc: Global,
     name: &Text,
     wire: &mut W,
@@ -53,7 +55,7 @@ pub fn run_join<B: ClientBoard, I: Source, O: Sink, W: Wire, D: Ledger, T: Ledge
     begun_is_due();
     match wire.dial() {
         Ok(link) => {
-            let Joined { end, rx, tx } = join_link::<B, I, O, W::Rx, W::Tx, D, T>(
+            let Joined { end, rx, tx } = join_link::<L, B, I, O, W::Rx, W::Tx, D, T>(
                 alloc, name, link, input, output, draws, tiles,
             );
             wire.done(rx, tx);

@@ -3,4 +3,4 @@
 
 mod machine;
 
-pub use machine::{LineMachine, ScriptEnd, Undone};
+pub use machine::{LineMachine, LineRunner, ScriptEnd, Undone};

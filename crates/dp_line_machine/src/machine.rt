@@ -1,6 +1,8 @@
 //! What does lines.
 
+use dp_io::Source;
 use dp_lines::{Line, StepRule};
+use std::alloc::Global;
 
 /// Why a line isn't done.
 #[derive(Drop, Debug)]
@@ -85,4 +87,46 @@ pub trait LineMachine<O, D, T>: StepRule {
             → has_done start done (moment self.old output.old draws.old tiles.old)
             → has_ended start done line.now
             (moment self.new output.new draws.new tiles.new) end)) };
+}
+
+/// Has machines do the lines of a source.
+pub trait LineRunner {
+    ghost use Rattle.std.specs.Prelude.{◌-◌, ◌^◌, ◌<◌, ◌≤◌, [], IfSome};
+    ghost use Rattle.dp_lines.specs.TakenParts.{TookWithin};
+    ghost use Rattle.dp_line_machine.specs.Ends.{FaultMatchesInput};
+    ghost use Rattle.dp_line_machine.specs.Leaves.{HoldsNoCause, ScriptLeaves};
+    ghost use Rattle.dp_line_machine.specs.Moments.{moment};
+
+    /// Reads the lines of the input, of which `limit` bytes count, and has the machine do them one
+    /// after the other. All lines that are whole in a piece are done before the next piece is
+    /// read. A piece has at most 4096 bytes.
+    ///
+    /// # Errors
+    ///
+    /// It ends with `BadLine` at the first line that is no step. It ends with `Long` if the input
+    /// has more bytes than count, and with `ReadFault` if it failed. It ends with `Memory` if
+    /// memory ran out for a line, and with `Ended` if a line ended the run.
+    ///
+    /// The rule: docs/protocol.md, "Lines".
+    fn run_lines<I: Source, O, D, T, M: LineMachine<O, D, T>>(
+        alloc: Global,
+        limit: usize,
+        input: &mut I,
+        machine: &mut M,
+        output: &mut O,
+        draws: &mut D,
+        tiles: &mut T,
+    ) -> ScriptEnd<M::End>
+        requires few { limit < 2 ^ 32 - 1 }
+        requires ready { M.is_ready machine.old }
+        requires first { M.has_done (moment machine.old output.old draws.old tiles.old) []
+            (moment machine.old output.old draws.old tiles.old) }
+        ensures leaves { ScriptLeaves M.is_step M.has_done M.has_ended limit
+            (I.left input.old) (I.left input.new)
+            (moment machine.old output.old draws.old tiles.old)
+            (moment machine.new output.new draws.new tiles.new) result }
+        ensures took { IfSome (I.left input.old) (λ bytes.
+            TookWithin (HoldsNoCause M.is_step limit) 4096 bytes (I.left input.new)) }
+        ensures fault { FaultMatchesInput (I.faults input.old) (I.faults input.new) result }
+        ensures later { I.faults input.old ≤ I.faults input.new };
 }

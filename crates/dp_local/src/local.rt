@@ -9,6 +9,7 @@ use crate::host::Host;
 use dp_canvas::DeferredPixels;
 use dp_drill::{Drill, run_drill};
 use dp_io::{Sink, Source};
+use dp_line_machine::LineRunner;
 use dp_lines::RunEnd;
 use dp_par::Workers;
 use dp_player::{Playing, run_play};
@@ -22,9 +23,10 @@ use dp_world::run_world;
 use std::sync::ledger::Ledger;
 use std::thread::Threads;
 
-/// Runs a command on the input and the output alone. A schedule is done in a world `W`, and a drill
-/// has a session `S`.
+/// Runs a command on the input and the output alone. `L` reads the lines of a schedule.
+/// They are done in a world `W`, and a drill has a session `S`.
 pub fn run_local<
+    L: LineRunner,
     W: ScheduleWorld,
     S: SureSession,
     R: Threads + Sync,
@@ -54,7 +56,7 @@ pub fn run_local<
         LocalCommand::Replay => {
             run_replay::<DeferredPixels, I, O, D, T>(alloc, input, output, draws, tiles)
         }
-        LocalCommand::World => run_world::<W, I, O, D, T>(alloc, input, output, draws, tiles),
+        LocalCommand::World => run_world::<L, W, I, O, D, T>(alloc, input, output, draws, tiles),
         LocalCommand::Play { at, workers } => {
             let (at, workers) = (*at, *workers);
             let playing = Playing { at, workers, gate };

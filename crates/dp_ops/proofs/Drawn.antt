@@ -12,12 +12,10 @@ use Rattle.dp_msg_draw.specs.declared.draw.Draw.{Draw}
 use Rattle.dp_pixels.specs.Commands.{pixel_drawn}
 use Rattle.dp_pixels.specs.Regions.{IsPainted}
 use Rattle.dp_pixels.specs.declared.region.Region.{Region}
-use Rattle.dp_pixels.specs.Rectangles.{canvas_rect, is_in}
 use Rattle.dp_ops.specs.declared.op.TileOp.TheVariants.{Command}
 use Rattle.dp_ops.specs.Ops.{command_at, on_tile, tile_after}
 use Rattle.dp_ops.specs.Drawn.{length-tile_drawn, tile_drawn}
 use Rattle.dp_ops.proofs.Ops.{is_tile_after}
-use Rattle.dp_pixels.proofs.Rectangles.{is_in_by}
 
 module _ (width height : ℕ) (op : Draw) (col row : ℕ) (pixels : List Channels) where
   -- one of them
@@ -51,17 +49,6 @@ tile_painted width height op col row region old new at_x at_y wide high count is
     is_tile_drawn width height op col row old new (is.len ∙ count)
     (λ i j in_x in_y. rw (← at_x, ← at_y)
     (is.inside i j clear (omega (arith, wide, in_x)) (omega (arith, high, in_y))))
-
--- a place of the canvas
-pub on_canvas : (width height x y : ℕ) → x < width → y < height
-    → is_in (canvas_rect width height) (pos x) (pos y) ≡ true
-on_canvas width height x y in_x in_y =
-    is_in_by (canvas_rect width height) (pos x) (pos y) (record {
-      x0 = omega (arith, ints);
-      x1 = omega (arith, ints, in_x);
-      y0 = omega (arith, ints);
-      y1 = omega (arith, ints, in_y);
-    })
 
 -- ---- the command of a number
 

@@ -33,7 +33,7 @@ use Rattle.dp_ops.specs.Lists.{IsFiled, IsFinished, IsInside, Lists, Waiting, li
 use Rattle.dp_ops.specs.declared.lists.Finish.TheVariants.{Drop, Keep}
 use Rattle.dp_ops.specs.Ops.{MayWait}
 use Rattle.dp_ops.specs.Lists.{IsNumbered, PutsMore, StandsOn, anywhere, filed_at, row_to}
-use Rattle.dp_ops.proofs.Drawn.{on_canvas}
+use Rattle.dp_pixels.proofs.Rectangles.{on_canvas}
 use Rattle.dp_ops.proofs.Ops.{fill_by, fill_facts}
 use Rattle.dp_ops.proofs.Waits.{inside_by, inside_facts}
 

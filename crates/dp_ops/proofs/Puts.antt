@@ -14,7 +14,7 @@ use Rattle.dp_tile.specs.Tiles.{tile_of}
 use Rattle.dp_ops.specs.declared.put.TileRun.{TileRun}
 use Rattle.dp_ops.specs.Drawn.{tile_drawn}
 use Rattle.dp_ops.specs.Puts.{put_of}
-use Rattle.dp_ops.proofs.Drawn.{on_canvas}
+use Rattle.dp_pixels.proofs.Rectangles.{on_canvas}
 use Rattle.dp_ops.proofs.Plain.{becomes, keeps}
 
 module _ (width height col row repeat : ℕ) where

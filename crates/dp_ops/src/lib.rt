@@ -18,4 +18,3 @@ pub use lists::{Finish, TileLists};
 pub use op::{PackedOp, TileDab, TileFill, TileOp};
 pub use painter::{CommandPainter, OpsPainter, show_ops};
 pub use sheet::Sheet;
-pub use side::tiles_along;

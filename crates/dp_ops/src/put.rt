@@ -8,9 +8,9 @@ ghost use Rattle.dp_tile.specs.Painters.{KnownChange};
 ghost use Rattle.dp_ops.specs.Drawn.{tile_drawn};
 ghost use Rattle.dp_ops.specs.Puts.{put_of};
 
-use crate::side::tiles_along;
 use dp_blend::Pixel;
 use dp_msg_draw::TileContent;
+use dp_pixels::tiles_along;
 use dp_tile::TileChange;
 
 /// The tiles of a PutTile: the one at a column and a row of a canvas of these sides, and `repeat`

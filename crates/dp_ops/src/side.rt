@@ -1,14 +1,6 @@
 //! The tiles along a side of a canvas.
 
 ghost use Rattle.std.specs.Prelude.{◌≡◌, ◌+◌, ◌*◌, ◌<◌, ◌≤◌, ℕ, pos, ◌<ℤ◌};
-ghost use Rattle.dp_pixels.specs.Tiles.{tiles_along};
-
-/// How many tiles there are along a side.
-pub fn tiles_along(side: u32) -> u32
-    ensures { result ≡ tiles_along side }
-{
-    ((side as u64 + 63) / 64) as u32
-}
 
 /// The greatest length of a side, in pixels.
 const MAX_SIDE: i64 = 4096;

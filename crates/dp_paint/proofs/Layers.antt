@@ -44,7 +44,7 @@ use Rattle.dp_ops.proofs.Ops.{pixel-tile_after}
 use Rattle.dp_paint.proofs.Painting.{StaysOutside, by_cells}
 use Rattle.dp_shift.proofs.AreaLemmas.{pixel_in, pixel_off}
 use Rattle.dp_ops.proofs.Waits.{inside_by, inside_facts}
-use Rattle.dp_ops.proofs.Drawn.{on_canvas}
+use Rattle.dp_pixels.proofs.Rectangles.{on_canvas}
 
 -- ---- pixels
 

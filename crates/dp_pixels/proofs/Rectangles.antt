@@ -5,7 +5,7 @@ use Rattle.std.proofs.lemmas.Int.{ints, int_max_is, int_min_is}
 use Rattle.std.proofs.lemmas.Bool.{cases_Bool, false_from_ne_true}
 use Rattle.dp_pixels.specs.declared.rect.Rect.{Rect}
 use Rattle.dp_pixels.specs.declared.rect.Place.{Place}
-use Rattle.dp_pixels.specs.Rectangles.{is_in, clipped}
+use Rattle.dp_pixels.specs.Rectangles.{is_in, clipped, canvas_rect}
 use Rattle.dp_pixels.specs.Regions.{IsRowIn}
 
 -- a place is in a rectangle
@@ -97,3 +97,14 @@ row_start bounds place len row =
     let some = row.some in
     let right = row.right in
     record { x0 = row.left; x1 = omega (arith, ints); y0 = row.top; y1 = row.bottom }
+
+-- a place of the canvas
+pub on_canvas : (width height x y : ℕ) → x < width → y < height
+    → is_in (canvas_rect width height) (pos x) (pos y) ≡ true
+on_canvas width height x y in_x in_y =
+    is_in_by (canvas_rect width height) (pos x) (pos y) (record {
+      x0 = omega (arith, ints);
+      x1 = omega (arith, ints, in_x);
+      y0 = omega (arith, ints);
+      y1 = omega (arith, ints, in_y);
+    })

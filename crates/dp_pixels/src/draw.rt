@@ -105,7 +105,7 @@ fn tile_region(
         pixels.old pixels.new }
 {
     let (width, height) = (region.canvas_width, region.canvas_height);
-    if (col as u64) < tiles_along(width) && (row as u64) < tiles_along(height) {
+    if (col as u32) < tiles_along(width) && (row as u32) < tiles_along(height) {
         let run = TileRun {
             width,
             height,

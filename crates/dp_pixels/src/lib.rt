@@ -36,3 +36,4 @@ pub use rect::{Place, Rect};
 pub use region::Region;
 pub use resize::Resize;
 pub use stroke::{Brush, brush_of, dabs_bounds, draw_dab, place_dabs};
+pub use tiles::tiles_along;

@@ -63,11 +63,11 @@ fn put_content(content: &TileContent, x: usize, y: usize, row: &mut [Pixel])
     }
 }
 
-/// How many tiles cover a side.
-pub(crate) fn tiles_along(side: u32) -> u64
+/// How many tiles there are along a side of a canvas.
+pub fn tiles_along(side: u32) -> u32
     ensures { result ≡ tiles_along side }
 {
-    (side as u64 + TILE - 1) / TILE
+    ((side as u64 + TILE - 1) / TILE) as u32
 }
 
 /// Tiles of a canvas with one content: the tile at a column and a row, and `repeat` further ones.
@@ -89,7 +89,7 @@ impl TileRun<'_> {
     fn first(&self) -> u64
         ensures { result ≡ tile_number self.now.width self.now.col self.now.row }
     {
-        self.row as u64 * tiles_along(self.width) + self.col as u64
+        self.row as u64 * tiles_along(self.width) as u64 + self.col as u64
     }
 
     /// A rectangle that has their places.
@@ -97,7 +97,7 @@ impl TileRun<'_> {
         ensures { result
             ≡ tiles_rect self.now.width self.now.col self.now.row self.now.repeat }
     {
-        let last = (self.first() + self.repeat as u64) / tiles_along(self.width);
+        let last = (self.first() + self.repeat as u64) / tiles_along(self.width) as u64;
         let top = (self.row as u64 * TILE) as i64;
         let bottom = ((last + 1) * TILE) as i64;
         if last == self.row as u64 {
@@ -126,7 +126,7 @@ impl TileRun<'_> {
             × (tile_number self.now.width (x / 64) tile_row
             ≤ tile_number self.now.width self.now.col self.now.row + self.now.repeat)) }
     {
-        let before = tile_row * tiles_along(self.width);
+        let before = tile_row * tiles_along(self.width) as u64;
         let first = self.first();
         let last = first + self.repeat as u64;
         Span {

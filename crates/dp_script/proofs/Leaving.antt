@@ -20,7 +20,7 @@ use Rattle.dp_line_machine.specs.declared.machine.ScriptEnd.{ScriptEnd}
 use Rattle.dp_line_machine.specs.declared.machine.ScriptEnd.TheVariants.{Done, BadLine, ReadFault, Long}
 use Rattle.dp_line_machine.specs.declared.machine.ScriptEnd.TheVariants.{Memory, Ended}
 use Rattle.dp_line_machine.specs.Ends.{FaultMatchesInput, IsOfLines}
-use Rattle.dp_script.specs.Leaves.{HoldsNoCause, HoldsLines, ScriptLeaves}
+use Rattle.dp_line_machine.specs.Leaves.{HoldsNoCause, HoldsLines, ScriptLeaves}
 use Rattle.dp_script.specs.Progress.{HasDone, HasRead, IsReading, IsEnding, StopsIn}
 use Rattle.dp_script.proofs.Called.{SeenCut, SeenWhole}
 

@@ -5,4 +5,4 @@ mod held;
 mod rest;
 mod run;
 
-pub use run::run_lines;
+pub use run::Script;

@@ -29,7 +29,7 @@ use Rattle.dp_shift.specs.Reading.{ArePainted, IsAreaOf, moved_part, shifted, sh
 use Rattle.dp_shift.proofs.AreaLemmas.{pixel_in, pixel_off}
 use Rattle.dp_shift.proofs.Shown.{shown_at}
 use Rattle.dp_shift.proofs.Tiles.{is_tile_from, pixel-tile_from}
-use Rattle.dp_ops.proofs.Drawn.{on_canvas}
+use Rattle.dp_pixels.proofs.Rectangles.{on_canvas}
 
 module _ (pixel : ℤ → ℤ → Channels) (area : CellArea) (old new : TileGrid)
     (painted : IsPaintedOn area (λ col row _. tile_from pixel col row) old new) where

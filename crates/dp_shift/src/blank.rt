@@ -4,7 +4,7 @@ ghost use Rattle.std.specs.Prelude.{◌≡◌, ◌≤◌, IfOk};
 ghost use Rattle.dp_pixels.specs.Tiles.{tiles_along};
 ghost use Rattle.dp_tile.specs.Tiles.{clear_grid};
 
-use dp_ops::tiles_along;
+use dp_pixels::tiles_along;
 use dp_tile::Grid;
 use std::alloc::{AllocError, Global};
 

@@ -17,7 +17,7 @@ use Rattle.dp_line_machine.specs.declared.machine.ScriptEnd.{ScriptEnd}
 use Rattle.dp_line_machine.specs.declared.machine.ScriptEnd.TheVariants.{Done, BadLine, ReadFault, Long}
 use Rattle.dp_line_machine.specs.declared.machine.ScriptEnd.TheVariants.{Memory, Ended}
 use Rattle.dp_line_machine.specs.Ends.{FaultMatchesInput}
-use Rattle.dp_script.specs.Leaves.{HoldsLines, AreFirstOf, IsNextOf, ScriptLeaves}
+use Rattle.dp_line_machine.specs.Leaves.{HoldsLines, AreFirstOf, IsNextOf, ScriptLeaves}
 use Rattle.dp_line_machine.specs.Moments.{Moment}
 use Rattle.dp_sim.specs.World.{World, first_world}
 use Rattle.dp_world_lines.specs.Schedule.{AskFor, IsStep}

@@ -17,7 +17,7 @@ use Rattle.dp_schedule.specs.declared.action.Action.{Action}
 use Rattle.dp_line_machine.specs.Counters.{Counters}
 use Rattle.dp_line_machine.specs.declared.machine.ScriptEnd.{ScriptEnd}
 use Rattle.dp_line_machine.specs.declared.machine.ScriptEnd.TheVariants as script
-use Rattle.dp_script.specs.Leaves.{HoldsNoCause}
+use Rattle.dp_line_machine.specs.Leaves.{HoldsNoCause}
 use Rattle.dp_sim.specs.Report.{report}
 use Rattle.dp_world_lines.specs.Draws.{DrawsFor}
 use Rattle.dp_world_lines.specs.Schedule.{AskFor, IsStep, WorldComesTo}

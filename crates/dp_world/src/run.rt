@@ -6,9 +6,8 @@ ghost use Rattle.dp_line_machine.specs.Counters.{counters};
 ghost use Rattle.dp_world.specs.RunEnds.{WorldLeaves, run_end_of};
 
 use dp_io::{Sink, Source};
-use dp_line_machine::ScriptEnd;
+use dp_line_machine::{LineRunner, ScriptEnd};
 use dp_lines::{RunEnd, further_step};
-use dp_script::run_lines;
 use dp_shown::PictureEnd;
 use dp_sim::ScheduleWorld;
 use dp_steps::Steps;
@@ -20,7 +19,7 @@ use std::sync::ledger::Ledger;
 const WORLD_LIMIT: usize = 1 << 26;
 
 /// Reads the lines of a schedule and does them one after the other. What a line prints is written
-/// before the next line is done. They are done in a world of the type `W`, and what is drawn there
+/// before the next line is done. `L` reads them. They are done in a world of the type `W`, and what is drawn there
 /// is counted.
 ///
 /// # Errors
@@ -30,7 +29,7 @@ const WORLD_LIMIT: usize = 1 << 26;
 /// with `Memory` if memory ran out.
 ///
 /// The rule: docs/protocol.md, "The world".
-pub fn run_world<W: ScheduleWorld, I: Source, O: Sink, D: Ledger, T: Ledger>(
+pub fn run_world<L: LineRunner, W: ScheduleWorld, I: Source, O: Sink, D: Ledger, T: Ledger>(
     alloc: Global,
     input: &mut I,
     output: &mut O,
@@ -49,7 +48,7 @@ pub fn run_world<W: ScheduleWorld, I: Source, O: Sink, D: Ledger, T: Ledger>(
     let Ok(mut machine) = WorldRun::<W>::new(alloc) else {
         return RunEnd::Memory;
     };
-    run_end(run_lines(
+    run_end(L::run_lines(
         alloc,
         WORLD_LIMIT,
         input,

@@ -6,7 +6,7 @@ use Rattle.dp_line_machine.specs.Moments.{moment}
 use Rattle.dp_script.proofs.Leaving.{read_first, none_ended, none_long, read_further, took_piece}
 use Rattle.dp_script.proofs.Leaving.{piece_stops, long_leaves, fault_leaves, done_leaves}
 use Rattle.dp_script.proofs.Leaving.{rest_stops, took_chunk, took_fault, stop_fault}
-use Rattle.dp_script.proofs.run.run_lines.Goals as goal
+use Rattle.dp_script.proofs.run.ScriptLineRunner.run_lines.Goals as goal
 
 pub reads-init : goal.reads-init
 reads-init g c = record {
