@@ -17,8 +17,8 @@ use std::alloc::Global;
 use std::sync::ledger::Ledger;
 
 /// Dials a link on the wire, joins the session at its other end as `join_link` does, and hands the
-/// link back, however the run ends. The client draws on boards of the type `B`,
-/// and `L` reads its script.
+/// link back, however the run ends. The client draws on boards of the type `B`, and
+/// `L` reads its script.
 ///
 /// # Errors
 ///

@@ -23,8 +23,8 @@ use dp_world::run_world;
 use std::sync::ledger::Ledger;
 use std::thread::Threads;
 
-/// Runs a command on the input and the output alone. `L` reads the lines of a schedule.
-/// They are done in a world `W`, and a drill has a session `S`.
+/// Runs a command on the input and the output alone. `L` reads the lines of a schedule. They are
+/// done in a world `W`, and a drill has a session `S`.
 pub fn run_local<
     L: LineRunner,
     W: ScheduleWorld,

@@ -19,8 +19,8 @@ use std::sync::ledger::Ledger;
 const WORLD_LIMIT: usize = 1 << 26;
 
 /// Reads the lines of a schedule and does them one after the other. What a line prints is written
-/// before the next line is done. `L` reads them. They are done in a world of the type `W`, and what is drawn there
-/// is counted.
+/// before the next line is done. `L` reads them. They are done in a world of the type `W`, and what
+/// is drawn there is counted.
 ///
 /// # Errors
 ///
