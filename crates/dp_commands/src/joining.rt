@@ -19,8 +19,8 @@ use dp_wire::Wire;
 use std::alloc::Global;
 use std::sync::ledger::Ledger;
 
-/// Joins a session over the first of the wires, if there is one, and gives the wires back. `L` reads
-/// the script.
+/// Joins a session over the first of the wires, if there is one, and gives the wires back. The
+/// script is read by `L`.
 pub fn run_link<
     L: LineRunner,
     B: ClientBoard,

@@ -33,9 +33,9 @@ pub struct Joined<R, S> {
 }
 
 /// Greets the server at the other end of a link by a name of at most 32 bytes. Then it does the
-/// lines of a script, one after the other. The client draws on boards of the type `B`, and `L` reads
-/// the script. What a line writes to the link is written before what it prints, and both before the
-/// next line is done. At the script's end it says that it leaves.
+/// lines of a script, one after the other. The client draws on boards of the type `B`, and the
+/// script is read by `L`. What a line writes to the link is written before what it prints, and both
+/// before the next line is done. At the script's end it says that it leaves.
 ///
 /// # Errors
 ///
