@@ -9,11 +9,7 @@ mod frames;
 #[cfg(test)]
 mod jobs;
 #[cfg(test)]
-mod links;
-#[cfg(test)]
 mod lists;
-#[cfg(test)]
-mod sockets;
 #[cfg(test)]
 mod steps;
 #[cfg(test)]

@@ -177,6 +177,17 @@ fn letters_of(rt: &impl Abort, word: &str) -> (u8, u8, u8) {
     (*how, *kind, *digit)
 }
 
+/// The word that was sent, and as what the fork takes it: an echo of the first that was said, or
+/// another's word.
+fn sent_of(rt: &impl Abort, said: &VecDeque<Word>, how: u8, other: Word) -> (Word, Own) {
+    match how {
+        b'e' => (said.front().copied().expect(rt, "a word said"), Own::Echo),
+        b'd' => (other, Own::Dropped),
+        b'l' => (other, Own::Lost),
+        _ => (other, Own::Stranger),
+    }
+}
+
 /// A step by a word of three letters: what comes, what it does, and a digit. Of what comes s is
 /// said, t a stranger's and e an echo. A d stands in place of the first that was said, and l has
 /// all lost. An x is said 130 times, and each time answered by its echo.
@@ -206,14 +217,11 @@ fn step<D: Ledger, T: Ledger>(
             say(painter, own_word, draws, tiles).expect(rt, "memory");
             painter.said.push_back(own_word).expect(rt, "memory");
         }
-        b'e' => {
-            let first = painter.said.front().copied().expect(rt, "a word said");
-            receive(rt, painter, (first, Own::Echo), quietly, draws, tiles);
-        }
         b'x' => say_much(rt, painter, own_word, quietly, draws, tiles),
-        b'd' => receive(rt, painter, (other, Own::Dropped), quietly, draws, tiles),
-        b'l' => receive(rt, painter, (other, Own::Lost), quietly, draws, tiles),
-        _ => receive(rt, painter, (other, Own::Stranger), quietly, draws, tiles),
+        _ => {
+            let sent = sent_of(rt, &painter.said, how, other);
+            receive(rt, painter, sent, quietly, draws, tiles);
+        }
     }
 }
 

@@ -61,6 +61,20 @@ fn take<D: Ledger, T: Ledger>(
     }
 }
 
+/// Takes an act, and adds it to those that were taken.
+fn take_one<D: Ledger, T: Ledger>(
+    rt: &impl Abort,
+    rollback: &mut Rollback<NumberBoard>,
+    acts: &mut Vec<UserAct<SetNumber>>,
+    act: UserAct<SetNumber>,
+    draws: &mut Steps<D>,
+    tiles: &mut Steps<T>,
+) -> Change {
+    let change = take(rollback, &act, draws, tiles).expect(rt, "memory");
+    acts.push(act).expect(rt, "memory");
+    change
+}
+
 /// The letter of a change.
 fn letter(change: Change) -> u8 {
     match change {
@@ -91,8 +105,7 @@ fn check_script<D: Ledger, T: Ledger>(
     let mut acts = Vec::new(alloc);
     for (k, word) in script.split_whitespace().enumerate() {
         let act = act_of(rt, word, k);
-        let change = take(&mut rollback, &act, draws, tiles).expect(rt, "memory");
-        acts.push(act).expect(rt, "memory");
+        let change = take_one(rt, &mut rollback, &mut acts, act, draws, tiles);
         let is_so = has_letter(change, k, changes) && shows(rt, alloc, &rollback, depth, &acts);
         check(rt, is_so, word, script);
     }
@@ -252,8 +265,7 @@ fn take_acts<D: Ledger, T: Ledger>(
     let mut acts = Vec::new(alloc);
     for (place, word) in script.split_whitespace().enumerate() {
         let act = act_of(rt, word, place);
-        take(rollback, &act, draws, tiles).expect(rt, "memory");
-        acts.push(act).expect(rt, "memory");
+        let _change = take_one(rt, rollback, &mut acts, act, draws, tiles);
         assert!(rt; rollback.saves() <= 2);
     }
     acts
@@ -298,6 +310,28 @@ fn trail<D: Ledger, T: Ledger>(
     }
 }
 
+/// The numbers of a board that trailed the acts of a script.
+fn trailed<D: Ledger, T: Ledger>(
+    rt: &impl Abort,
+    alloc: Global,
+    (depth, script): (u32, &str),
+    draws: &mut Steps<D>,
+    tiles: &mut Steps<T>,
+) -> [u64; NUMBERS] {
+    let blank = NumberBoard::new(alloc, NUMBERS).expect(rt, "memory");
+    let mut board = TrailingBoard::new(alloc, depth, blank).expect(rt, "memory");
+    trail(rt, &mut board, script, draws, tiles);
+    let board = board.finish(draws, tiles).expect(rt, "memory");
+    numbers_of(rt, &board)
+}
+
+/// The numbers by the plain replay of a script of more than two thousand acts.
+fn replayed_script(rt: &impl Abort, alloc: Global, depth: u32, script: &str) -> [u64; NUMBERS] {
+    let acts = acts_of(rt, alloc, script);
+    assert!(rt; acts.len() > 2000);
+    replayed(rt, alloc, depth, &acts)
+}
+
 /// Has a board trail some two thousand acts, many more than it holds, and compares at the end.
 fn check_trailing<D: Ledger, T: Ledger>(
     rt: &impl Abort,
@@ -307,13 +341,8 @@ fn check_trailing<D: Ledger, T: Ledger>(
     tiles: &mut Steps<T>,
 ) {
     let script = script_of(rt, alloc, 200, None);
-    let blank = NumberBoard::new(alloc, NUMBERS).expect(rt, "memory");
-    let mut board = TrailingBoard::new(alloc, depth, blank).expect(rt, "memory");
-    trail(rt, &mut board, script.as_str(), draws, tiles);
-    let acts = acts_of(rt, alloc, script.as_str());
-    assert!(rt; acts.len() > 2000);
-    let board = board.finish(draws, tiles).expect(rt, "memory");
-    assert!(rt; numbers_of(rt, &board) == replayed(rt, alloc, depth, &acts));
+    let numbers = trailed(rt, alloc, (depth, script.as_str()), draws, tiles);
+    assert!(rt; numbers == replayed_script(rt, alloc, depth, script.as_str()));
 }
 
 /// Checks scripts, savepoints, two hundred groups of a command, boards that trail, and what is held

@@ -111,22 +111,41 @@ static HISTORIES: [(u32, &str, u32, &str); 42] = [
     (2, "1P. 1D- 1P. 1D-", 0, "1U1 1U1"),
 ];
 
+/// Adds points of user 2.
+fn push_points(rt: &impl Abort, acts: &mut Vec<UserAct<u8>>, points: u32) {
+    for _ in 0..points {
+        let point = UserAct {
+            user: b'2',
+            act: Act::Point,
+        };
+        acts.push(point).expect(rt, "memory");
+    }
+}
+
+/// Each act has a flag, and each command is drawn as expected.
+fn check_flags(rt: &impl Abort, alloc: Global, depth: u32, acts: &[UserAct<u8>], words: &str) {
+    let flags = drawn_flags(alloc, depth, acts).expect(rt, "memory");
+    check(rt, flags.len() == acts.len(), words);
+    check(rt, is_as_expected(acts, &flags), words);
+}
+
+/// The acts of a history, and what is drawn of them.
+fn check_history(
+    rt: &impl Abort,
+    alloc: Global,
+    (depth, first, points, last): (u32, &str, u32, &str),
+) {
+    let mut acts = Vec::new(alloc);
+    push_acts(rt, &mut acts, first);
+    push_points(rt, &mut acts, points);
+    push_acts(rt, &mut acts, last);
+    check_flags(rt, alloc, depth, &acts, first);
+}
+
 #[test]
 fn drawn_commands(rt: HostRuntime) {
-    for (depth, first, points, last) in &HISTORIES {
-        let mut acts = Vec::new(rt.alloc());
-        push_acts(&rt, &mut acts, first);
-        for _ in 0..*points {
-            let point = UserAct {
-                user: b'2',
-                act: Act::Point,
-            };
-            acts.push(point).expect(&rt, "memory");
-        }
-        push_acts(&rt, &mut acts, last);
-        let flags = drawn_flags(rt.alloc(), *depth, &acts).expect(&rt, "memory");
-        check(&rt, flags.len() == acts.len(), first);
-        check(&rt, is_as_expected(&acts, &flags), first);
+    for row in &HISTORIES {
+        check_history(&rt, rt.alloc(), *row);
     }
 }
 
@@ -236,23 +255,26 @@ fn check_moves(
     }
 }
 
+/// A script, what each of its acts moves, and what it joins.
+static MOVES: [(&str, &str, &str); 6] = [
+    ("1D. 1P. 1D. 1U1 1D. 1R1", "---1--", ".-1-.-"),
+    ("1P. 1D. 2U1 2D. 1R1 1D.", "--0-0-", "-0-.-0"),
+    // A depth that is set.
+    ("1P. 1P. 1S0 1U1 1U1", "---1-", "-----"),
+    ("1S3 1P. 1P. 1P. 1U1 1U1 1U1 1D.", "----321-", "-------."),
+    // The first of three groups is out of reach, and commands join it after two undos.
+    ("1P. 1P. 1P. 1U1 1U1 1U1 1D. 1R1", "---21---", "------0-"),
+    (
+        "1P. 1P. 1P. 1P. 1P. 1U1 1U1 1U1 1R1 1D.",
+        "-----43-3-",
+        "---------3",
+    ),
+];
+
 #[test]
 fn one_act_at_a_time(rt: HostRuntime) {
-    for row in [
-        ("1D. 1P. 1D. 1U1 1D. 1R1", "---1--", ".-1-.-"),
-        ("1P. 1D. 2U1 2D. 1R1 1D.", "--0-0-", "-0-.-0"),
-        // A depth that is set.
-        ("1P. 1P. 1S0 1U1 1U1", "---1-", "-----"),
-        ("1S3 1P. 1P. 1P. 1U1 1U1 1U1 1D.", "----321-", "-------."),
-        // The first of three groups is out of reach, and commands join it after two undos.
-        ("1P. 1P. 1P. 1U1 1U1 1U1 1D. 1R1", "---21---", "------0-"),
-        (
-            "1P. 1P. 1P. 1P. 1P. 1U1 1U1 1U1 1R1 1D.",
-            "-----43-3-",
-            "---------3",
-        ),
-    ] {
-        check_moves(&rt, rt.alloc(), row, false);
-        check_moves(&rt, rt.alloc(), row, true);
+    for row in &MOVES {
+        check_moves(&rt, rt.alloc(), *row, false);
+        check_moves(&rt, rt.alloc(), *row, true);
     }
 }

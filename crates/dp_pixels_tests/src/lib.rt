@@ -1,4 +1,4 @@
-//! The tests of drawing messages, of blending, of commands on pixels, and of tiles and layers.
+//! The tests of drawing messages, of blending, and of commands on pixels.
 #![tactic(auto)]
 
 #[cfg(test)]
@@ -9,7 +9,3 @@ mod colors;
 mod commands;
 #[cfg(test)]
 mod drawing;
-#[cfg(test)]
-mod painting;
-#[cfg(test)]
-mod tiles;

@@ -1,6 +1,9 @@
 //! What a machine gives the program, by its words.
 
-ghost use Rattle.std.specs.Prelude.{◌≡◌, [], None, IfOk};
+ghost use Rattle.std.specs.Prelude.{◌≡◌, [], false, map, string_bytes, is_some, IfOk};
+ghost use Rattle.dp_sockets.specs.Wires.{WordsWant};
+ghost use Rattle.dp_program.specs.declared.store.Store.TheVariants.{Memory};
+ghost use Rattle.dp_program.specs.Stores.{HasFile, NameFile, is_file};
 
 use crate::store::Store;
 use dp_io::{StdSink, StdSource, put_all};
@@ -42,13 +45,22 @@ struct Asked<'a> {
 }
 
 impl<'a> Given<'a> {
-    /// Opens what the program's words want.
+    /// Opens what the program's words want. Without a wire no file is made. A store that is no
+    /// file has no rows.
     ///
     /// # Errors
     ///
     /// The program's status, if memory ran out or the store can't be opened. Standard error then
     /// has the reason.
-    pub fn open(rt: &'a HostRuntime) -> Result<Given<'a>, u8> {
+    pub fn open(rt: &'a HostRuntime) -> Result<Given<'a>, u8>
+        ensures wires { IfOk result (λ given.
+            WordsWant (map string_bytes given.words.items) given.wires.items) }
+        ensures file { IfOk result (λ given.
+            HasFile (map string_bytes given.words.items) given.wires.items
+            (is_file given.store)) }
+        ensures memory { IfOk result (λ given.
+            is_file given.store ≡ false → given.store ≡ Memory []) }
+    {
         match read_asked(rt) {
             Ok(asked) => with_store(rt, asked),
             Err(AllocError) => Err(refuse(rt, KeepError::Memory)),
@@ -64,7 +76,12 @@ pub fn close(words: Vec<String>, wires: Vec<TcpWire<&HostRuntime>>, store: Store
 }
 
 /// Opens the store, and has the rest beside it.
-fn with_store<'a>(rt: &'a HostRuntime, asked: Asked<'a>) -> Result<Given<'a>, u8> {
+fn with_store<'a>(rt: &'a HostRuntime, asked: Asked<'a>) -> Result<Given<'a>, u8>
+    ensures words { IfOk result (λ given. given.words ≡ asked.words) }
+    ensures wires { IfOk result (λ given. given.wires ≡ asked.wires) }
+    ensures file { IfOk result (λ given. is_file given.store ≡ is_some asked.journal) }
+    ensures memory { IfOk result (λ given. is_file given.store ≡ false → given.store ≡ Memory []) }
+{
     let Asked {
         words,
         wires,
@@ -104,7 +121,10 @@ fn refuse(rt: &HostRuntime, error: KeepError) -> u8 {
 /// Reads the words, and opens the wires that they want. No file is made for a server that has no
 /// wires.
 fn read_asked(rt: &HostRuntime) -> Result<Asked<'_>, AllocError>
-    ensures { IfOk result (λ asked. asked.wires.items ≡ [] → asked.journal ≡ None) }
+    ensures wires { IfOk result (λ asked.
+        WordsWant (map string_bytes asked.words.items) asked.wires.items) }
+    ensures file { IfOk result (λ asked. HasFile (map string_bytes asked.words.items)
+        asked.wires.items (is_some asked.journal)) }
 {
     let words = words(rt)?;
     let journal = journal_of(rt.alloc(), &words)?;
@@ -118,7 +138,9 @@ fn read_asked(rt: &HostRuntime) -> Result<Asked<'_>, AllocError>
 }
 
 /// The file that the words name for a server's rows, if they name one.
-fn journal_of(alloc: Global, words: &[String]) -> Result<Option<Word>, AllocError> {
+fn journal_of(alloc: Global, words: &[String]) -> Result<Option<Word>, AllocError>
+    ensures { IfOk result (λ journal. NameFile (map string_bytes words.now) (is_some journal)) }
+{
     match wanted(alloc, words)? {
         Devices::Listen {
             addr: _,

@@ -1,6 +1,8 @@
 //! The store of a run.
 
-ghost use Rattle.dp_program.specs.Stores.{store_held, store_put_faults, store_read_faults};
+ghost use Rattle.std.specs.Prelude.{◌≡◌, [], false, IfOk, is_some};
+ghost use Rattle.dp_program.specs.declared.store.Store.TheVariants.{Memory};
+ghost use Rattle.dp_program.specs.Stores.{is_file, store_held, store_put_faults, store_read_faults};
 
 use dp_keeper::{KeepError, Keeper, Row, Rows, SureKeeper};
 use dp_keeper_sql::SqlKeeper;
@@ -20,7 +22,10 @@ impl Store {
     ///
     /// `Failed` if the file can't be opened, is no database or is in use, and `Memory` if memory
     /// ran out.
-    pub fn open(rt: &HostRuntime, path: Option<&Word>) -> Result<Store, KeepError> {
+    pub fn open(rt: &HostRuntime, path: Option<&Word>) -> Result<Store, KeepError>
+        ensures file { IfOk result (λ store. is_file store ≡ is_some path) }
+        ensures memory { IfOk result (λ store. is_file store ≡ false → store ≡ Memory []) }
+    {
         match path {
             Some(path) => Ok(Store::File(SqlKeeper::new(rt, path.as_str())?)),
             None => Ok(Store::Memory(SureKeeper::new(Rows::new(rt.alloc())))),
