@@ -27,13 +27,26 @@ use std::sync::ledger::Ledger;
 
 /// A board whose paint layers hold contents of one kind. It is seen as a `Board` of the
 /// definitions, with the pixels of each content.
-#[derive(Drop)]
 pub struct LayeredBoard<C: LayerPixels> {
     width: u32,
     height: u32,
     background: u32,
     tree: Tree<C>,
     alloc: Global,
+}
+
+// It is written out, so that it is only called where a board is let go.
+impl<C: LayerPixels> Drop for LayeredBoard<C> {
+    fn drop(self) {
+        let LayeredBoard {
+            width: _,
+            height: _,
+            background: _,
+            tree,
+            alloc: _,
+        } = self;
+        drop(tree);
+    }
 }
 
 impl<C: LayerPixels> Model for LayeredBoard<C> {

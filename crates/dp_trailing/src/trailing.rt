@@ -25,13 +25,28 @@ const SLACK: usize = 64;
 
 /// A board that trails its history: drawn up to an act that no later undo or redo comes before. The
 /// acts from there on are held, so that each command is drawn once.
-#[derive(Drop)]
 pub struct TrailingBoard<B: Board> {
     board: B,
     table: StrokeTable,
     base: usize,
     kept: Vec<KeptAct<B::Op>>,
     limit: usize,
+}
+
+// It is written out, so that it is only called where a board is let go.
+impl<B: Board> Drop for TrailingBoard<B> {
+    fn drop(self) {
+        let TrailingBoard {
+            board,
+            table,
+            base: _,
+            kept,
+            limit: _,
+        } = self;
+        drop(board);
+        drop(table);
+        drop(kept);
+    }
 }
 
 impl<B: Board> Model for TrailingBoard<B> {
@@ -315,9 +330,12 @@ impl<B: Board> TrailingBoard<B> {
         stroke_laws::<B::Op>();
         let TrailingBoard {
             mut board,
+            table,
+            base: _,
             kept,
-            ..
+            limit: _,
         } = self;
+        drop(table);
         draw_kept(&mut board, &kept, draws, tiles)?;
         Ok(board)
     }
