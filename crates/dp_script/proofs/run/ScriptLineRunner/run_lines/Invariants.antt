@@ -2,7 +2,7 @@ use Rattle.std.proofs.Common.{◌≡◌, ◌+◌, [], ℕ}
 use Rattle.dp_lines.specs.Held.{NextIsLong, ended_from}
 use Rattle.dp_line_machine.specs.Moments.{moment}
 use Rattle.dp_script.specs.Progress.{HasRead}
-use Rattle.dp_script.proofs.run.run_lines.Given as goal
+use Rattle.dp_script.proofs.run.ScriptLineRunner.run_lines.Given as goal
 
 -- the lines that are whole in what was taken are done, and the input didn't fail
 abbrev pub invariant-reads : goal.invariant-reads
