@@ -77,9 +77,9 @@ pub fn close(words: Vec<String>, wires: Vec<TcpWire<&HostRuntime>>, store: Store
 
 /// Opens the store, and has the rest beside it.
 fn with_store<'a>(rt: &'a HostRuntime, asked: Asked<'a>) -> Result<Given<'a>, u8>
-    ensures words { IfOk result (λ given. given.words ≡ asked.words) }
-    ensures wires { IfOk result (λ given. given.wires ≡ asked.wires) }
-    ensures file { IfOk result (λ given. is_file given.store ≡ is_some asked.journal) }
+    ensures words { IfOk result (λ given. given.words ≡ asked.entry.words) }
+    ensures wires { IfOk result (λ given. given.wires ≡ asked.entry.wires) }
+    ensures file { IfOk result (λ given. is_file given.store ≡ is_some asked.entry.journal) }
     ensures memory { IfOk result (λ given. is_file given.store ≡ false → given.store ≡ Memory []) }
 {
     let Asked {

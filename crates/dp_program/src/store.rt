@@ -23,7 +23,7 @@ impl Store {
     /// `Failed` if the file can't be opened, is no database or is in use, and `Memory` if memory
     /// ran out.
     pub fn open(rt: &HostRuntime, path: Option<&Word>) -> Result<Store, KeepError>
-        ensures file { IfOk result (λ store. is_file store ≡ is_some path) }
+        ensures file { IfOk result (λ store. is_file store ≡ is_some path.entry) }
         ensures memory { IfOk result (λ store. is_file store ≡ false → store ≡ Memory []) }
     {
         match path {
